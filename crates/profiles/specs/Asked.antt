@@ -1,26 +1,42 @@
--- What may be asked of a profile, and where a temperature stands in a sheet.
+-- What may be asked of a profile, and where a temperature stands in a sheet. Temperatures are tenths of a degree.
 use mathlib.Core.Bool.{Bool, cond, _&&_}
 use Prim.Native.Nat.{ℕ, _+_, _*_}
 use lib.Dec.{ltb}
-use lib.IntN.{ℤ, pos, negsuc, natAbs, _+ℤ_}
-use lib.Signed.{leZ}
-use Rattle.std.specs.Numbers.{maxZ, minZ}
+use lib.IntN.{ℤ, pos, negsuc, natAbs, _+ℤ_, _-ℤ_}
+use lib.Signed.{leZ, ltZ}
 
--- a temperature from -400 to 500 tenths of a degree, and one of four seasons
+-- -40.0 and 50.0 degrees
+abbrev pub coldest : ℤ
+coldest = negsuc 399
+
+abbrev pub hottest : ℤ
+hottest = pos 500
+
+-- winter, transition in heating time, transition outside it, summer
+abbrev pub seasons : ℕ
+seasons = 4
+
+-- a temperature and a season that a profile may be asked for
 abbrev pub within : ℤ → ℕ → Bool
-within t season = leZ (negsuc 399) t && (leZ t (pos 500) && ltb season 4)
+within t season = leZ coldest t && (leZ t hottest && ltb season seasons)
 
 -- a served segment, at such a temperature and season
 abbrev pub asked : ℕ → ℕ → ℤ → ℕ → Bool
 asked segments segment t season = ltb segment segments && within t season
 
--- the tenths from -80 to 300
+-- a sheet has one column for each tenth from -8.0 to 30.0 degrees
+abbrev pub firstTenth : ℤ
+firstTenth = negsuc 79
+
+abbrev pub lastTenth : ℤ
+lastTenth = pos 300
+
 abbrev pub columns : ℕ
 columns = 381
 
--- the column of a temperature in a sheet, the nearer end's where it is outside
+-- the column of a temperature: colder or warmer than the sheet goes, that of the nearer end
 abbrev pub column : ℤ → ℕ
-column t = natAbs (maxZ (negsuc 79) (minZ t (pos 300)) +ℤ pos 80)
+column t = cond (ltZ t firstTenth) 0 (cond (ltZ lastTenth t) 380 (natAbs (t -ℤ firstTenth)))
 
 -- where a row and a temperature stand in a sheet
 abbrev pub place : ℕ → ℤ → ℕ

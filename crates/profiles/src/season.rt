@@ -1,18 +1,20 @@
 // A layer over any profile that scales the day factor of one segment by season and temperature.
 ghost use mathlib.Core.Path.{_≡_};
-ghost use mathlib.Core.Bool.{cond};
-ghost use Prim.Native.Nat.{_<_, _≤_};
+ghost use mathlib.Core.Bool.{true, cond};
+ghost use Prim.Native.Nat.{ℕ, _<_, _≤_};
+ghost use lib.IntN.{ℤ};
 ghost use lib.ListN.{replicate};
 ghost use Rattle.std.specs.Results.{Cases, isOk};
 ghost use Rattle.refusals.specs.declared.Refusal.the-variants.{Particulars};
 ghost use Rattle.profiles.specs.Laws.{whole};
-ghost use Rattle.profiles.specs.Layers.{lastSegment, layerCells, maxSeasonNumber, layered};
+ghost use Rattle.profiles.specs.Layers.{lastSegment, layerCells, maxSeasonNumber, layerTells, Scales};
 ghost use Rattle.profiles.specs.Sheets.{verdict};
 use crate::factors::Factors;
 use crate::factors::WHOLE;
 use crate::profile::Profile;
 use crate::sheet::Sheet;
 use crate::weather::COLUMNS;
+use crate::weather::LAST_SEASON;
 use crate::weather::column;
 use refusals::Refusal;
 
@@ -42,7 +44,8 @@ pub struct LayerRefused<P> {
 impl<P: Profile> SeasonLayer<P> {
     // A layer for one segment that changes nothing until a sheet is filled in.
     pub fn new(below: P, segment: u32) -> Result<SeasonLayer<P>, LayerRefused<P>>
-        ensures { λ r. ⌜ Cases r (λ l. (l .below ≡ below) × (l .segment ≡ segment) × (l .sheet .numbers ≡ replicate layerCells whole)) (λ e. (e .why ≡ Particulars) × (e .below ≡ below) × (lastSegment < segment)) ⌝ }
+        ensures made { λ r. ⌜ Cases r (λ l. (l .below ≡ below) × (l .segment ≡ segment) × (l .sheet .numbers ≡ replicate layerCells whole)) (λ e. (e .why ≡ Particulars) × (e .below ≡ below) × (lastSegment < segment)) ⌝ }
+        ensures idle { λ r. ⌜ Cases r (λ l. (asked : ℕ) (t : ℤ) (season : ℕ) → layerTells (l .segment) (l .sheet .numbers) (P·Profile .tells (l .below)) asked t season ≡ P·Profile .tells below asked t season) (λ _. ⊥ → ⊥) ⌝ }
     {
         if segment > LAST_SEGMENT {
             return Err(LayerRefused {
@@ -62,6 +65,7 @@ impl<P: Profile> SeasonLayer<P> {
         ensures taken { λ r. ⌜ r ≡ verdict layerCells maxSeasonNumber (now (sheet .entry)) ⌝ }
         ensures after { λ r. ⌜ now (self .exit) .sheet .numbers ≡ cond (isOk r) (now (sheet .entry)) (now (self .entry) .sheet .numbers) ⌝ }
         ensures rest { λ r. ⌜ (now (self .exit) .below ≡ now (self .entry) .below) × (now (self .exit) .segment ≡ now (self .entry) .segment) ⌝ }
+        ensures scales { λ r. ⌜ (isOk r ≡ true → Scales (now (self .entry) .segment) (now (sheet .entry)) (P·Profile .tells (now (self .entry) .below)) (layerTells (now (self .exit) .segment) (now (self .exit) .sheet .numbers) (P·Profile .tells (now (self .exit) .below)))) ⌝ }
     {
         self.sheet.fill(sheet)
     }
@@ -72,7 +76,7 @@ pub impl<P: Profile> Profile for SeasonLayer<P> as SeasonLayerTells {
 
     ghost segments = { P·Profile .segments };
 
-    ghost tells = { λ l segment t season. layered (l .segment) (l .sheet .numbers) segment t season (P·Profile .tells (l .below) segment t season) };
+    ghost tells = { λ l. layerTells (l .segment) (l .sheet .numbers) (P·Profile .tells (l .below)) };
 
     fn segments_of() -> u32 {
         P::segments_of()
@@ -80,7 +84,7 @@ pub impl<P: Profile> Profile for SeasonLayer<P> as SeasonLayerTells {
 
     fn tell(&self, segment: u32, temperature: i16, season: u8) -> Factors {
         let told = self.below.tell(segment, temperature, season);
-        if segment != self.segment || season > 3 {
+        if segment != self.segment || season > LAST_SEASON {
             return told;
         }
         let number = self.sheet

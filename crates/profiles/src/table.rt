@@ -1,11 +1,11 @@
 // The published table: residential and business customers, by temperature.
 ghost use mathlib.Core.Path.{_≡_};
-ghost use mathlib.Core.Bool.{cond};
+ghost use mathlib.Core.Bool.{true, cond};
 ghost use lib.ListN.{replicate};
 ghost use Rattle.std.specs.Results.{isOk};
 ghost use Rattle.profiles.specs.Laws.{whole};
 ghost use Rattle.profiles.specs.Sheets.{verdict};
-ghost use Rattle.profiles.specs.Tables.{tableCells, tableTells};
+ghost use Rattle.profiles.specs.Tables.{tableSegments, tableCells, tableTells, Reads};
 use crate::factors::Factors;
 use crate::factors::WHOLE;
 use crate::profile::Profile;
@@ -38,6 +38,7 @@ impl TableProfile {
     pub fn fill(&mut self, sheet: &[u32]) -> Result<(), Refusal>
         ensures taken { λ r. ⌜ r ≡ verdict tableCells whole (now (sheet .entry)) ⌝ }
         ensures after { λ r. ⌜ now (self .exit) .sheet .numbers ≡ cond (isOk r) (now (sheet .entry)) (now (self .entry) .sheet .numbers) ⌝ }
+        ensures read { λ r. ⌜ (isOk r ≡ true → Reads (now (sheet .entry)) (tableTells (now (self .exit) .sheet .numbers))) ⌝ }
     {
         self.sheet.fill(sheet)
     }
@@ -46,7 +47,7 @@ impl TableProfile {
 pub impl Profile for TableProfile as TableProfileTells {
     const SEGMENTS: u32 = 2;
 
-    ghost segments = { 2 };
+    ghost segments = { tableSegments };
 
     ghost tells = { λ p. tableTells (p .sheet .numbers) };
 

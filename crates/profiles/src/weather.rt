@@ -2,13 +2,13 @@
 // it, 3 summer.
 ghost use mathlib.Core.Path.{_≡_};
 ghost use Prim.Native.Nat.{_<_};
-ghost use Rattle.profiles.specs.Asked.{within, column};
+ghost use Rattle.profiles.specs.Asked.{within, columns, column};
 
 const COLDEST: i16 = -400;
 
 const HOTTEST: i16 = 500;
 
-const LAST_SEASON: u8 = 3;
+pub(crate) const LAST_SEASON: u8 = 3;
 
 // The first and the last tenth that a sheet has a column for.
 const FIRST_TENTH: i16 = -80;
@@ -28,7 +28,7 @@ pub fn in_range(temperature: i16, season: u8) -> bool
 // The temperature's column in a sheet; colder or warmer than the sheet goes, that of the nearer end.
 pub(crate) fn column(temperature: i16) -> usize
     ensures is { λ r. ⌜ r ≡ column temperature ⌝ }
-    ensures inside { λ r. ⌜ r < 381 ⌝ }
+    ensures inside { λ r. ⌜ r < columns ⌝ }
 {
     (temperature.clamp(FIRST_TENTH, LAST_TENTH) - FIRST_TENTH) as usize
 }
