@@ -5,7 +5,7 @@ ghost use Prim.Native.Nat.{_+_, _*_, _≤_};
 ghost use lib.ListN.{length};
 ghost use Rattle.ledger.specs.Accounts.{Sound};
 ghost use Rattle.ledger.specs.Days.{openQuantityAnswer};
-ghost use Rattle.ledger.specs.Rows.{inRange, particularsFit, dialFits, mayShare, isFree, isServed, every, summable, openSums};
+ghost use Rattle.ledger.specs.Rows.{inRange, particularsFit, dialFits, mayShare, isFree, isServed, every, summable, openSumOf, openSums};
 use super::Book;
 use super::MAX_TRADERS;
 use super::dial_end;
@@ -54,6 +54,20 @@ impl Point {
     {
         self.in_range() && self.trader < traders && self.open_sum <= FULL_OPEN_SUM && self.period_sum <= FULL_PERIOD_SUM
     }
+
+    // Whether the row can be summed for the trader: it is another's, or within its ranges.
+    fn is_summable(&self, trader: u32) -> bool
+        ensures { λ r. ⌜ r ≡ summable trader (now (self .entry)) ⌝ }
+    {
+        self.trader != trader || self.in_range()
+    }
+
+    // The row's open sum where it is the trader's, and else nought.
+    fn open_sum_of(&self, trader: u32) -> u64
+        ensures { λ r. ⌜ r ≡ openSumOf trader (now (self .entry)) ⌝ }
+    {
+        if self.trader == trader { self.open_sum } else { 0 }
+    }
 }
 
 // What a share-out asks of its rows, each of all of them.
@@ -93,7 +107,7 @@ fn his_rows_fit(sheet: &[Point], n: usize, trader: u32) -> bool
 {
     let mut fit = true;
     for i in 0..n {
-        fit = fit & (sheet[i].trader != trader || sheet[i].in_range());
+        fit = fit & sheet[i].is_summable(trader);
     }
     fit
 }
@@ -107,9 +121,7 @@ fn open_sums(sheet: &[Point], n: usize, trader: u32) -> u64
 {
     let mut all = 0;
     for i in 0..n {
-        if sheet[i].trader == trader {
-            all += sheet[i].open_sum;
-        }
+        all += sheet[i].open_sum_of(trader);
     }
     all
 }
