@@ -22,15 +22,6 @@ impl OpenDay {
     }
 }
 
-impl MeasuredDay {
-    // The day's number, by openings from 1.
-    pub fn number(&self) -> u32
-        ensures { λ r. ⌜ r ≡ now (self .entry) .number ⌝ }
-    {
-        self.number
-    }
-}
-
 // A refusal hands the token back.
 pub struct Refused<T> {
     pub why: Refusal,

@@ -3,6 +3,7 @@
 mod book;
 mod day;
 mod ledger;
+mod measured;
 mod point;
 
 pub use day::MeasuredDay;

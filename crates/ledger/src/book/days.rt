@@ -232,15 +232,16 @@ impl Book {
         ensures state { λ r. ⌜ now (self .exit) ≡ abandonOpenBook (now (self .entry)) day ⌝ }
         ensures sound { λ r. ⌜ Sound (now (self .exit)) ⌝ }
     {
-        if !self.phase.is_open(day.number) {
-            return Err(Refused {
+        if self.phase.is_open(day.number) {
+            let OpenDay { number: _ } = day;
+            self.end();
+            Ok(())
+        } else {
+            Err(Refused {
                 why: Refusal::NotRunning,
                 token: day,
-            });
+            })
         }
-        let OpenDay { number: _ } = day;
-        self.end();
-        Ok(())
     }
 
     pub(crate) fn abandon_measured(&mut self, day: MeasuredDay) -> Result<(), Refused<MeasuredDay>>
@@ -249,15 +250,16 @@ impl Book {
         ensures state { λ r. ⌜ now (self .exit) ≡ abandonMeasuredBook (now (self .entry)) day ⌝ }
         ensures sound { λ r. ⌜ Sound (now (self .exit)) ⌝ }
     {
-        if !self.phase.is_measured(day.number) {
-            return Err(Refused {
+        if self.phase.is_measured(day.number) {
+            let MeasuredDay { number: _ } = day;
+            self.end();
+            Ok(())
+        } else {
+            Err(Refused {
                 why: Refusal::NotRunning,
                 token: day,
-            });
+            })
         }
-        let MeasuredDay { number: _ } = day;
-        self.end();
-        Ok(())
     }
 }
 
