@@ -16,7 +16,7 @@ use Rattle.ledger.specs.declared.point.Point.{Point}
 use Rattle.ledger.specs.Accounts.{Sound, Settling, accountAt, meteredAt, credited, creditedTo, withTraders, reach}
 use Rattle.ledger.specs.Limits.{maxLitres}
 use Rattle.ledger.specs.Rows.{rowAt, every, mayShare, sharedRow, sharedRows}
-use Rattle.ledger.proofs.Open.{Shareable, shareable}
+use Rattle.ledger.proofs.Ranges.{Shareable, shareable}
 use Rattle.ledger.proofs.Rows.{every-at, sharedRows-later, sharedRows-more}
 use Rattle.ledger.proofs.Traders.{sum-take, getD-le-sum, creditedTo-more, length-creditedTo, metered-creditedTo, near-creditedTo, metered-le}
 
@@ -59,7 +59,7 @@ module _ (told : ℕ → Factors) (l : Book) (s : List Point) (shares : List ℕ
         may = ok;
         place = omega arith;
         share = let w = share-small shares i n h in omega arith;
-        account = subst (λ (b : Book). accountAt (b .traders) (rowAt s′ i .trader) ≤ℤ pos 6_000_000_000_000_000_000) (sym e) (credit-within i (omega arith) (rowAt s′ i .trader))
+        account = subst (λ (b : Book). accountAt (b .traders) (rowAt s′ i .trader) ≤ℤ pos 6_000_000_000_000_000_000) (sym e) (credit-within i (omega arith) (rowAt s′ i .trader));
       }
 
   -- what a turn leaves
@@ -84,5 +84,5 @@ module _ (told : ℕ → Factors) (l : Book) (s : List Point) (shares : List ℕ
       subst (λ (b : Book). Settling (b .traders)) (sym e) (record {
         places = length-creditedTo (l .traders) s shares n ∙ so .places;
         small = λ t. let a = metered-creditedTo (l .traders) s shares n t in let b = metered-le (l .traders) t in let c = so .metered in omega arith;
-        within = credit-within n (omega arith)
+        within = credit-within n (omega arith);
       })

@@ -1,8 +1,9 @@
 pub mod Grounds
+pub mod Accepted
 pub mod Rows
 pub mod Traders
 pub mod Keep
 pub mod Loops
-pub mod Open
+pub mod Ranges
 pub mod Crediting
 pub mod ShareOut

@@ -36,9 +36,8 @@ use Rattle.ledger.specs.History.{LawfulRule}
 use Rattle.ledger.specs.Limits.{maxLitres, maxPoints}
 use Rattle.ledger.specs.Rows.{rowAt, noRow, every, mayShare, factorsAt, profileUse, profileUses, sharedRow, sharedRows}
 use Rattle.ledger.specs.Sharing.{Tells, Rule, toldOn, dayQuantity, dayLoss, dayUses, dayShares, shareGrounds, noWeight, shareFault, shareTold, shareAnswer, sharedBook, shareBook, shareSheet, shareUses, shareShares, oneMoreShared}
-use Rattle.ledger.proofs.Grounds.{no-ground}
 use Rattle.ledger.proofs.Keep.{shares-within, share-sound}
-use Rattle.ledger.proofs.Open.{fitting, Shareable, shareable}
+use Rattle.ledger.proofs.Ranges.{shareable}
 use Rattle.ledger.proofs.Rows.{every-at}
 use Rattle.ledger.proofs.Traders.{sum-cons}
 
@@ -71,15 +70,15 @@ uses-same f g s n r h =
     let F : (ℕ → Factors) → Point → ℕ = λ u p. profileUse (p .«scale_factor») (u (p .segment) .day) in
     let len : length (take n s) ≡ n = length-take-le n s r in
     ext-getD 0 (profileUses f (take n s)) (profileUses g (take n s)) (length-map (take n s) (F f) ∙ sym (length-map (take n s) (F g)))
-      (λ k q.
-        let lm = length-map (take n s) (F f) in
-        let kn : k < n = omega arith in
-        let kt : k < length (take n s) = omega arith in
-        getD-map (F f) (take n s) k noRow 0 kt
-        ∙ ap (F f) (getD-take n s k noRow kn)
-        ∙ ap (λ (x : Factors). profileUse (rowAt s k .«scale_factor») (x .day)) (h k kn)
-        ∙ ap (F g) (sym (getD-take n s k noRow kn))
-        ∙ sym (getD-map (F g) (take n s) k noRow 0 kt))
+    (λ k q.
+    let lm = length-map (take n s) (F f) in
+    let kn : k < n = omega arith in
+    let kt : k < length (take n s) = omega arith in
+    getD-map (F f) (take n s) k noRow 0 kt
+    ∙ ap (F f) (getD-take n s k noRow kn)
+    ∙ ap (λ (x : Factors). profileUse (rowAt s k .«scale_factor») (x .day)) (h k kn)
+    ∙ ap (F g) (sym (getD-take n s k noRow kn))
+    ∙ sym (getD-map (F g) (take n s) k noRow 0 kt))
 
 none-left : (xs : List ℕ) → sum xs ≡ 0 → xs ≡ replicate (length xs) 0
 none-left [] e = refl
@@ -110,13 +109,13 @@ module _ (l : Book) (day : MeasuredDay) (s : List Point) (tells-of : Tells) (seg
         short = grind (arith, tells);
         uses = grind (arith, tells);
         shares = grind (arith, tells);
-        rows = grind (arith, tells)
+        rows = grind (arith, tells);
       }
 
   -- the shares come to no more than the quantity
   pub shares-small : (rule : Rule) → LawfulRule rule → Sound l → sum (dayShares l s tells-of rule) ≤ maxLitres
   shares-small rule law so =
-      let a = shares-within rule law (dayQuantity (l .phase)) (dayUses l s tells-of) in
+      let a = shares-within law (dayQuantity (l .phase)) (dayUses l s tells-of) in
       let b = quantity-small (l .phase) _ _ (so .day) in
       omega arith
 
@@ -149,7 +148,7 @@ module _ (l : Book) (day : MeasuredDay) (s : List Point) (tells-of : Tells) (seg
         let zero-sum : sum (dayUses l s tells-of) ≡ 0 = sym (ap sum weighed-is) ∙ sym t ∙ z in
         let nw : noWeight l s tells-of ≡ true = grind (arith, tells) in
         let fault : shareFault l day s tells-of segments (length us) (length ss) ≡ Some NoWeight =
-              ap (λ (o : Option Refusal). unless o (cond (noWeight l s tells-of) (Some NoWeight) None) o) none ∙ cond-true _ _ _ nw in
+        ap (λ (o : Option Refusal). unless o (cond (noWeight l s tells-of) (Some NoWeight) None) o) none ∙ cond-true _ _ _ nw in
         let noughts : dayUses l s tells-of ≡ replicate (l .counts .points) 0 = none-left (dayUses l s tells-of) zero-sum ∙ ap (λ (n : ℕ). replicate n 0) length-uses in
         let rest = drop (l .counts .points) us in
         record {
@@ -157,8 +156,8 @@ module _ (l : Book) (day : MeasuredDay) (s : List Point) (tells-of : Tells) (seg
           state = sym (ap (λ (o : Option Refusal). unless o (sharedBook l s (dayShares l s tells-of rule)) l) fault);
           rows = sym (ap (λ (o : Option Refusal). unless o (sharedRows (toldOn (l .phase) tells-of) s (dayShares l s tells-of rule) (l .counts .points)) s) fault);
           weighed = e ∙ ap (λ u. u ++ rest) (weighed-is ∙ noughts)
-            ∙ sym (ap (λ (o : Option Refusal). unless o (cond (noWeight l s tells-of) (replicate (l .counts .points) 0) (dayUses l s tells-of) ++ rest) us) none ∙ ap (λ u. u ++ rest) (cond-true _ _ _ nw));
-          given = sym (ap (λ (o : Option Refusal). unless o (dayShares l s tells-of rule ++ drop (l .counts .points) ss) ss) fault)
+              ∙ sym (ap (λ (o : Option Refusal). unless o (cond (noWeight l s tells-of) (replicate (l .counts .points) 0) (dayUses l s tells-of) ++ rest) us) none ∙ ap (λ u. u ++ rest) (cond-true _ _ _ nw));
+          given = sym (ap (λ (o : Option Refusal). unless o (dayShares l s tells-of rule ++ drop (l .counts .points) ss) ss) fault);
         }
 
     -- the day was shared out
@@ -170,7 +169,7 @@ module _ (l : Book) (day : MeasuredDay) (s : List Point) (tells-of : Tells) (seg
           loss = m .loss + x;
           correction = m .correction;
           «next_day» = m .«next_day» + 1;
-          phase = Idle
+          phase = Idle;
         }
 
     pub record Done (r : Result SharedOut (Refused MeasuredDay)) (m : Book) (s′ : List Point) (us′ ss′ : List ℕ) (rule : Rule) : Type 0 where
@@ -186,7 +185,7 @@ module _ (l : Book) (day : MeasuredDay) (s : List Point) (tells-of : Tells) (seg
     divided-is rule us′ ss′ quantity e q d =
         let n = l .counts .points in
         let front : take n us′ ≡ dayUses l s tells-of =
-              ap (take n) (e ∙ ap (λ u. u ++ drop n us) weighed-is) ∙ take-at (dayUses l s tells-of) (drop n us) n length-uses in
+        ap (take n) (e ∙ ap (λ u. u ++ drop n us) weighed-is) ∙ take-at (dayUses l s tells-of) (drop n us) n length-uses in
         d ∙ ap (λ u. rule quantity u ++ drop n ss) front ∙ ap (λ (x : ℕ). rule x (dayUses l s tells-of) ++ drop n ss) q
 
     length-shares : (rule : Rule) → LawfulRule rule → length (dayShares l s tells-of rule) ≡ l .counts .points
@@ -217,28 +216,28 @@ module _ (l : Book) (day : MeasuredDay) (s : List Point) (tells-of : Tells) (seg
         let total-is : total ≡ sum (dayUses l s tells-of) = t ∙ ap sum weighed-is in
         let nw : noWeight l s tells-of ≡ false = ap (λ (y : ℕ). ltb 0 y && eqb (sum (dayUses l s tells-of)) 0) (sym q) ∙ ap (λ (y : ℕ). ltb 0 quantity && eqb y 0) (sym total-is) ∙ some in
         let fault : shareFault l day s tells-of segments (length us) (length ss) ≡ None =
-              ap (λ (o : Option Refusal). unless o (cond (noWeight l s tells-of) (Some NoWeight) None) o) none ∙ cond-false _ _ _ nw in
+        ap (λ (o : Option Refusal). unless o (cond (noWeight l s tells-of) (Some NoWeight) None) o) none ∙ cond-false _ _ _ nw in
         let given : ss′ ≡ shares ++ drop n ss = divided-is rule us′ ss′ quantity e q d in
         let long : n ≤ length shares = let p = length-shares rule law in omega arith in
         let traders : creditedTo (l .traders) s ss′ n ≡ creditedTo (l .traders) s shares n = ap (λ u. creditedTo (l .traders) s u n) given ∙ creditedTo-front (l .traders) s shares (drop n ss) n long in
         let book : closed l₂ loss ≡ sharedBook l s shares =
-              ap (λ (b : Book). closed b loss) (e₂ ∙ ap (λ (b : Book). withTraders b (map settled (b .traders))) e₁)
-              ∙ ap (λ (y : ℕ). closed (withTraders l (map settled (creditedTo (l .traders) s ss′ n))) y) x
-              ∙ ap (λ ts. closed (withTraders l (map settled ts)) (dayLoss (l .phase))) traders in
+        ap (λ (b : Book). closed b loss) (e₂ ∙ ap (λ (b : Book). withTraders b (map settled (b .traders))) e₁)
+        ∙ ap (λ (y : ℕ). closed (withTraders l (map settled (creditedTo (l .traders) s ss′ n))) y) x
+        ∙ ap (λ ts. closed (withTraders l (map settled ts)) (dayLoss (l .phase))) traders in
         let state : closed l₂ loss ≡ shareBook l day s tells-of rule segments (length us) (length ss) =
-              book ∙ sym (ap (λ (o : Option Refusal). unless o (sharedBook l s shares) l) fault) in
+        book ∙ sym (ap (λ (o : Option Refusal). unless o (sharedBook l s shares) l) fault) in
         let rest = drop n us in
         record {
           answer = ap (λ (y : ℕ). Ok (record { quantity = y; total = total; loss = loss })) q
-            ∙ ap (λ (y : ℕ). Ok (record { quantity = dayQuantity (l .phase); total = y; loss = loss })) total-is
-            ∙ ap (λ (y : ℕ). Ok (record { quantity = dayQuantity (l .phase); total = sum (dayUses l s tells-of); loss = y })) x
-            ∙ sym (ap (λ (o : Option Refusal). handedBack o day (shareTold l s tells-of)) fault);
+              ∙ ap (λ (y : ℕ). Ok (record { quantity = dayQuantity (l .phase); total = y; loss = loss })) total-is
+              ∙ ap (λ (y : ℕ). Ok (record { quantity = dayQuantity (l .phase); total = sum (dayUses l s tells-of); loss = y })) x
+              ∙ sym (ap (λ (o : Option Refusal). handedBack o day (shareTold l s tells-of)) fault);
           state = state;
           rows = r₁ ∙ ap (λ u. sharedRows (factorsAt told) s u n) given ∙ sharedRows-front (factorsAt told) s shares (drop n ss) n long
-            ∙ sharedRows-same (factorsAt told) (toldOn (l .phase) tells-of) s shares n told-same
-            ∙ sym (ap (λ (o : Option Refusal). unless o (sharedRows (toldOn (l .phase) tells-of) s shares n) s) fault);
+              ∙ sharedRows-same (factorsAt told) (toldOn (l .phase) tells-of) s shares n told-same
+              ∙ sym (ap (λ (o : Option Refusal). unless o (sharedRows (toldOn (l .phase) tells-of) s shares n) s) fault);
           weighed = e ∙ ap (λ u. u ++ rest) weighed-is
-            ∙ sym (ap (λ (o : Option Refusal). unless o (cond (noWeight l s tells-of) (replicate n 0) (dayUses l s tells-of) ++ rest) us) none ∙ ap (λ u. u ++ rest) (cond-false _ _ _ nw));
+              ∙ sym (ap (λ (o : Option Refusal). unless o (cond (noWeight l s tells-of) (replicate n 0) (dayUses l s tells-of) ++ rest) us) none ∙ ap (λ u. u ++ rest) (cond-false _ _ _ nw));
           given = given ∙ sym (ap (λ (o : Option Refusal). unless o (shares ++ drop n ss) ss) fault);
-          sound = subst Sound (sym state) (share-sound l day s tells-of rule segments (length us) (length ss) law so)
+          sound = subst Sound (sym state) (share-sound l day s tells-of rule segments (length us) (length ss) law so);
         }

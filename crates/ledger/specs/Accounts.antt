@@ -68,7 +68,7 @@ newBook first =
       loss = 0;
       correction = pos 0;
       «next_day» = first;
-      phase = Idle
+      phase = Idle;
     }
 
 abbrev pub withTraders : Book → List Trader → Book
@@ -79,7 +79,7 @@ withTraders l ts =
       loss = l .loss;
       correction = l .correction;
       «next_day» = l .«next_day»;
-      phase = l .phase
+      phase = l .phase;
     }
 
 abbrev pub withCounts : Book → Counts → Book
@@ -90,7 +90,7 @@ withCounts l c =
       loss = l .loss;
       correction = l .correction;
       «next_day» = l .«next_day»;
-      phase = l .phase
+      phase = l .phase;
     }
 
 abbrev pub withPhase : Book → Phase → Book
@@ -101,7 +101,7 @@ withPhase l p =
       loss = l .loss;
       correction = l .correction;
       «next_day» = l .«next_day»;
-      phase = p
+      phase = p;
     }
 
 -- an integer at most b from nought

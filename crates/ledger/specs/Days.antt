@@ -35,7 +35,7 @@ oneMoreTrader c =
       opened = c .opened;
       shared = c .shared;
       readings = c .readings;
-      bookings = c .bookings
+      bookings = c .bookings;
     }
 
 abbrev pub admitFault : Book → Option Refusal
@@ -57,7 +57,7 @@ oneMorePoint c =
       opened = c .opened;
       shared = c .shared;
       readings = c .readings;
-      bookings = c .bookings
+      bookings = c .bookings;
     }
 
 abbrev pub pointFault : Book → List Point → Given → Option Refusal
@@ -93,7 +93,7 @@ oneMoreOpened c =
       opened = c .opened + 1;
       shared = c .shared;
       readings = c .readings;
-      bookings = c .bookings
+      bookings = c .bookings;
     }
 
 abbrev pub openFault : Book → ℤ → ℕ → Option Refusal

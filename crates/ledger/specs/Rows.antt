@@ -23,7 +23,7 @@ noRow =
       «open_sum» = 0;
       «period_sum» = 0;
       slip = 0;
-      «kept_reading» = 0
+      «kept_reading» = 0;
     }
 
 abbrev pub rowAt : List Point → ℕ → Point
@@ -93,7 +93,7 @@ admittedRow g =
       «open_sum» = 0;
       «period_sum» = 0;
       slip = 0;
-      «kept_reading» = 0
+      «kept_reading» = 0;
     }
 
 -- a row after a day was shared out: the share joins its open sum, the multiplier its period sum
@@ -109,7 +109,7 @@ sharedRow p share multiplier =
       «open_sum» = p .«open_sum» + share;
       «period_sum» = p .«period_sum» + multiplier;
       slip = p .slip;
-      «kept_reading» = p .«kept_reading»
+      «kept_reading» = p .«kept_reading»;
     }
 
 -- the sheet once the first k rows have had their shares

@@ -94,7 +94,7 @@ oneMoreShared c =
       opened = c .opened;
       shared = c .shared + 1;
       readings = c .readings;
-      bookings = c .bookings
+      bookings = c .bookings;
     }
 
 -- the ledger after its points had these shares: shares and metered sums are in the traders' accounts, the loss in its account
@@ -106,7 +106,7 @@ sharedBook l s shares =
       loss = l .loss + dayLoss (l .phase);
       correction = l .correction;
       «next_day» = l .«next_day» + 1;
-      phase = Idle
+      phase = Idle;
     }
 
 abbrev pub shareBook : Book → MeasuredDay → List Point → Tells → Rule → ℕ → ℕ → ℕ → Book

@@ -109,7 +109,11 @@ impl Book {
         None
     }
 
-    pub(crate) fn admit_point(&mut self, sheet: &mut [Point], given: Particulars) -> Result<usize, Refusal>
+    pub(crate) fn admit_point(
+        &mut self,
+        sheet: &mut [Point],
+        given: Particulars,
+    ) -> Result<usize, Refusal>
         requires { ⌜ Sound (now self) ⌝ }
         ensures answer { λ r. ⌜ r ≡ pointAnswer (now (self .entry)) (now (sheet .entry)) given ⌝ }
         ensures state { λ r. ⌜ now (self .exit) ≡ pointBook (now (self .entry)) (now (sheet .entry)) given ⌝ }

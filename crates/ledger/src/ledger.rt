@@ -94,7 +94,12 @@ impl Ledger {
     }
 
     // Takes the day's inflow and its loss rate in millionths.
-    pub fn take_inflow(&mut self, day: OpenDay, inflow: u64, rate: u32) -> Result<MeasuredDay, Refused<OpenDay>>
+    pub fn take_inflow(
+        &mut self,
+        day: OpenDay,
+        inflow: u64,
+        rate: u32,
+    ) -> Result<MeasuredDay, Refused<OpenDay>>
         ensures answer { λ r. ⌜ r ≡ inflowAnswer (now (self .entry) .book) day inflow rate ⌝ }
         ensures state { λ r. ⌜ now (self .exit) .book ≡ inflowBook (now (self .entry) .book) day inflow rate ⌝ }
         ensures run { λ r. ⌜ ((s : List Row) → Goes (InflowTaken day inflow rate r) (now (self .entry) .book) s (now (self .exit) .book) s) ⌝ }

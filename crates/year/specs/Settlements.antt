@@ -37,7 +37,7 @@ withEntry d t q =
       season = d .season;
       entries = record { trader = t; litres = q } ∷ d .entries;
       inflow = d .inflow;
-      rate = d .rate
+      rate = d .rate;
     }
 
 abbrev pub withInflow : Day → ℕ → ℕ → Day

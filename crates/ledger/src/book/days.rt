@@ -85,7 +85,10 @@ impl Book {
         if !self.phase.is_idle() {
             return Some(Refusal::DayRunning);
         }
-        if self.counts.shared >= MAX_SHARED || self.counts.opened >= MAX_OPENED || self.next_day > LAST_DAY {
+        if self.counts.shared >= MAX_SHARED
+            || self.counts.opened >= MAX_OPENED
+            || self.next_day > LAST_DAY
+        {
             return Some(Refusal::NoMoreDays);
         }
         None
@@ -106,10 +109,7 @@ impl Book {
             None => {
                 let number = self.counts.opened + 1;
                 self.counts.opened = number;
-                self.phase = Phase::Open {
-                    number,
-                    weather,
-                };
+                self.phase = Phase::Open { number, weather };
                 Ok(OpenDay { number })
             }
         }
@@ -181,7 +181,12 @@ impl Book {
         None
     }
 
-    pub(crate) fn take_inflow(&mut self, day: OpenDay, inflow: u64, rate: u32) -> Result<MeasuredDay, Refused<OpenDay>>
+    pub(crate) fn take_inflow(
+        &mut self,
+        day: OpenDay,
+        inflow: u64,
+        rate: u32,
+    ) -> Result<MeasuredDay, Refused<OpenDay>>
         requires { ⌜ Sound (now self) ⌝ }
         ensures answer { λ r. ⌜ r ≡ inflowAnswer (now (self .entry)) day inflow rate ⌝ }
         ensures state { λ r. ⌜ now (self .exit) ≡ inflowBook (now (self .entry)) day inflow rate ⌝ }

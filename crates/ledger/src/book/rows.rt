@@ -52,7 +52,10 @@ impl Point {
     fn may_share(&self, traders: u32) -> bool
         ensures { λ r. ⌜ r ≡ mayShare traders (now (self .entry)) ⌝ }
     {
-        self.in_range() && self.trader < traders && self.open_sum <= FULL_OPEN_SUM && self.period_sum <= FULL_PERIOD_SUM
+        self.in_range()
+            && self.trader < traders
+            && self.open_sum <= FULL_OPEN_SUM
+            && self.period_sum <= FULL_PERIOD_SUM
     }
 
     // Whether the row can be summed for the trader: it is another's, or within its ranges.
@@ -66,7 +69,11 @@ impl Point {
     fn open_sum_of(&self, trader: u32) -> u64
         ensures { λ r. ⌜ r ≡ openSumOf trader (now (self .entry)) ⌝ }
     {
-        if self.trader == trader { self.open_sum } else { 0 }
+        if self.trader == trader {
+            self.open_sum
+        } else {
+            0
+        }
     }
 }
 

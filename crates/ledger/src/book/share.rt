@@ -107,7 +107,13 @@ impl Phase {
 
 impl Book {
     // The grounds of a share-out but for the last.
-    fn share_grounds<P: Profile>(&self, day: &MeasuredDay, sheet: &[Point], uses: usize, shares: usize) -> Option<Refusal>
+    fn share_grounds<P: Profile>(
+        &self,
+        day: &MeasuredDay,
+        sheet: &[Point],
+        uses: usize,
+        shares: usize,
+    ) -> Option<Refusal>
         ensures { λ r. ⌜ r ≡ shareGrounds (now (self .entry)) (now (day .entry)) (now (sheet .entry)) (P·Profile .segments) uses shares ⌝ }
     {
         let n = self.counts.points;

@@ -34,5 +34,5 @@ returns c =
     let lo = c .loop-i .inv .1 .low in
     record {
       value = c .loop-i .inv .0 ∙ ap allAccounts (take-all (c .loop-i .i) (c .args .self .now .traders) (omega arith));
-      bound = record { high = omega (arith, ints); low = omega (arith, ints) }
+      bound = record { high = omega (arith, ints); low = omega (arith, ints) };
     }

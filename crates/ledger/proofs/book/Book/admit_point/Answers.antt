@@ -10,12 +10,12 @@ use Rattle.ledger.specs.Days.{pointFault, oneMorePoint}
 use Rattle.ledger.specs.Grounds.{answered, unless}
 use Rattle.ledger.specs.Rows.{admittedRow}
 use lib.ListN.{set}
-use Rattle.ledger.proofs.Open.{placed}
+use Rattle.ledger.proofs.Accepted.{point-fits}
 use Rattle.ledger.proofs.Keep.{point-sound}
 use Rattle.ledger.proofs.book.Book.admit_point.Needs as need
 
 pub index-sheet-number : need.index-sheet-number
-index-sheet-number c = placed (c .args .self .now) (c .args .sheet .now) (c .args .given) (sym (c .point-fault .ensures) ∙ c .in-None .is) .inside
+index-sheet-number c = point-fits (c .args .self .now) (c .args .sheet .now) (c .args .given) (sym (c .point-fault .ensures) ∙ c .in-None .is) .room
 
 pub returns-in-None : need.returns-in-None
 returns-in-None c =
@@ -28,5 +28,5 @@ returns-in-None c =
       answer = sym (ap (λ (o : Option Refusal). answered o (l .counts .points)) none);
       state = state;
       rows = ap (set s (l .counts .points)) (c .row .ensures) ∙ sym (ap (λ (o : Option Refusal). unless o (set s (l .counts .points) (admittedRow g)) s) none);
-      sound = subst Sound (sym state) (point-sound l s g (c .pre))
+      sound = subst Sound (sym state) (point-sound l s g (c .pre));
     }

@@ -34,9 +34,10 @@ loop-i-again c =
     let f = factorsAt (c .args .told .now) in
     let l = c .args .self .now in
     let s = c .args .sheet .now in
-    let ss = c .args .shares .now in
-    ( credit-step f l s ss (c .args .n) (c .pre .sound) (c .pre .rows) (c .pre .small) (c .loop-i .self) (c .credit-one .last .self) (c .loop-i .sheet) (c .loop-i .i) (c .loop-i .inv .0) (c .loop-i .inv .1) (c .credit-one .ensures)
-    , row-step f l s ss (c .args .n) (c .pre .sound) (c .pre .rows) (c .pre .small) (c .loop-i .sheet) (c .loop-i .i) (c .shared .result) (c .loop-i .inv .1) (c .shared .ensures) )
+    let ss = c .args .shares .now in (
+      credit-step f l s ss (c .args .n) (c .pre .sound) (c .pre .rows) (c .pre .small) (c .loop-i .self) (c .credit-one .last .self) (c .loop-i .sheet) (c .loop-i .i) (c .loop-i .inv .0) (c .loop-i .inv .1) (c .credit-one .ensures),
+      row-step f l s ss (c .args .n) (c .pre .sound) (c .pre .rows) (c .pre .small) (c .loop-i .sheet) (c .loop-i .i) (c .shared .result) (c .loop-i .inv .1) (c .shared .ensures),
+    )
 
 pub returns : need.returns
 returns c =
@@ -46,5 +47,5 @@ returns c =
     let e : c .loop-i .i ≡ c .args .n = omega arith in
     record {
       state = c .loop-i .inv .0 ∙ ap (λ (j : ℕ). withTraders l (creditedTo (l .traders) s ss j)) e;
-      rows = c .loop-i .inv .1 ∙ ap (λ (j : ℕ). sharedRows (factorsAt (c .args .told .now)) s ss j) e
+      rows = c .loop-i .inv .1 ∙ ap (λ (j : ℕ). sharedRows (factorsAt (c .args .told .now)) s ss j) e;
     }

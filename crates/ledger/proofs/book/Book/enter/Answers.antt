@@ -7,15 +7,15 @@ use Rattle.ledger.specs.Accounts.{Sound, withTraders, entered}
 use Rattle.ledger.specs.Days.{enterFault}
 use Rattle.ledger.specs.Grounds.{answered, unless}
 use Rattle.ledger.proofs.Keep.{enter-sound}
-use Rattle.ledger.proofs.Open.{entering}
+use Rattle.ledger.proofs.Accepted.{enters}
 use Rattle.ledger.proofs.Traders.{metered-le}
 use Rattle.ledger.proofs.book.Book.enter.Needs as need
 
 pub add-self : need.add-self
 add-self c =
     let l = c .args .self .now in
-    let k = entering l (c .args .day .now) (c .args .trader) (c .args .litres) (sym (c .enter-fault .ensures) ∙ c .in-None .is) in
-    let w = k .within in
+    let k = enters l (c .args .day .now) (c .args .trader) (c .args .litres) (sym (c .enter-fault .ensures) ∙ c .in-None .is) in
+    let w = k .room in
     let m = metered-le (l .traders) (c .args .trader) in
     record { fits = omega arith }
 
@@ -30,5 +30,5 @@ returns-in-None c =
     record {
       answer = sym (ap (λ (o : Option Refusal). answered o tt) none);
       state = state;
-      sound = subst Sound (sym state) (enter-sound l d t q (c .pre))
+      sound = subst Sound (sym state) (enter-sound l d t q (c .pre));
     }

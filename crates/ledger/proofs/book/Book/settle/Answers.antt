@@ -30,7 +30,7 @@ loop-i-again c =
     let with-account : ℤ → Trader = λ z. record { account = z; metered = 0 } in
     let p = c .pre .places in
     map-step settled (c .args .self .now) (c .loop-i .self) (c .loop-i .i) _ (omega arith) (c .loop-i .inv)
-      (ap with-account (toZ-ofZ w64 (c .grow .result) k ∙ c .grow .ensures ∙ ap (λ z. z +ℤ pos (t .metered)) (toZ-ofZ w64 (t .account) f)))
+    (ap with-account (toZ-ofZ w64 (c .grow .result) k ∙ c .grow .ensures ∙ ap (λ z. z +ℤ pos (t .metered)) (toZ-ofZ w64 (t .account) f)))
 
 pub returns : need.returns
 returns c = let p = c .pre .places in map-done settled (c .args .self .now) (c .loop-i .self) (c .loop-i .i) (omega arith) (c .loop-i .inv)

@@ -29,7 +29,7 @@ weigh-total-requires g c κs =
       rows = ok .room;
       few = let a = ok .room in let b = ok .short in omega arith;
       room = ok .uses;
-      segments = segment-small l (c .args .day) (c .args .sheet .now) f n (c .args .uses .now) (c .args .shares .now) (c .ask-told .result) asked ok
+      segments = segment-small l (c .args .day) (c .args .sheet .now) f n (c .args .uses .now) (c .args .shares .now) (c .ask-told .result) asked ok;
     }
 
 pub returns-then-total-eq0 : need.returns-then-total-eq0
@@ -42,7 +42,7 @@ returns-then-total-eq0 g c =
     let asked = c .ask-told .ensures ∙ ap (λ (w : Weather). map (λ (k : ℕ). f k (w .temperature) (w .season)) (counting 0 8)) (c .weather .ensures) in
     let q = c .quantity-quantity .ensures in
     let d = weightless l (c .args .day) (c .args .sheet .now) f n (c .args .uses .now) (c .args .shares .now) (c .ask-told .result) asked ok (g .R·ShareRule .shares)
-          (c .weigh-total .last .uses) (c .weigh-total .result) none (c .weigh-total .ensures .written) (c .weigh-total .ensures .total) (subst (λ (x : ℕ). 0 < x) q (c .if-quantity-gt0 .taken)) (c .if-total-eq0 .taken) in
+    (c .weigh-total .last .uses) (c .weigh-total .result) none (c .weigh-total .ensures .written) (c .weigh-total .ensures .total) (subst (λ (x : ℕ). 0 < x) q (c .if-quantity-gt0 .taken)) (c .if-total-eq0 .taken) in
     record { answer = d .answer; state = d .state; rows = d .rows; weighed = d .weighed; given = d .given; sound = c .pre }
 
 pub divide-requires : need.divide-requires
@@ -65,14 +65,14 @@ credit-requires g c κs =
     let ok = passed l (c .args .day) (c .args .sheet .now) f n (c .args .uses .now) (c .args .shares .now) none in
     let asked = c .ask-told .ensures ∙ ap (λ (w : Weather). map (λ (k : ℕ). f k (w .temperature) (w .season)) (counting 0 8)) (c .weather .ensures) in
     let given = divided-is l (c .args .day) (c .args .sheet .now) f n (c .args .uses .now) (c .args .shares .now) (c .ask-told .result) asked ok rule
-          (c .weigh-total .last .uses) (c .divide .last .shares) (c .quantity-quantity .result) (c .weigh-total .ensures .written) (c .quantity-quantity .ensures) (c .divide .ensures) in
+    (c .weigh-total .last .uses) (c .divide .last .shares) (c .quantity-quantity .result) (c .weigh-total .ensures .written) (c .quantity-quantity .ensures) (c .divide .ensures) in
     let k = c .divide .kept .shares in
     record {
       sound = c .pre;
       room = ok .room;
       all = let a = ok .shares in omega arith;
       rows = ok .rows;
-      small = front-small l (c .args .day) (c .args .sheet .now) f n (c .args .uses .now) (c .args .shares .now) (c .ask-told .result) asked ok rule law (c .pre) (c .divide .last .shares) given
+      small = front-small l (c .args .day) (c .args .sheet .now) f n (c .args .uses .now) (c .args .shares .now) (c .ask-told .result) asked ok rule law (c .pre) (c .divide .last .shares) given;
     }
 
 pub settle-requires : need.settle-requires
@@ -87,7 +87,7 @@ settle-requires g c κs =
     let ok = passed l (c .args .day) (c .args .sheet .now) f n (c .args .uses .now) (c .args .shares .now) none in
     let asked = c .ask-told .ensures ∙ ap (λ (w : Weather). map (λ (k : ℕ). f k (w .temperature) (w .season)) (counting 0 8)) (c .weather .ensures) in
     let given = divided-is l (c .args .day) (c .args .sheet .now) f n (c .args .uses .now) (c .args .shares .now) (c .ask-told .result) asked ok rule
-          (c .weigh-total .last .uses) (c .divide .last .shares) (c .quantity-quantity .result) (c .weigh-total .ensures .written) (c .quantity-quantity .ensures) (c .divide .ensures) in
+    (c .weigh-total .last .uses) (c .divide .last .shares) (c .quantity-quantity .result) (c .weigh-total .ensures .written) (c .quantity-quantity .ensures) (c .divide .ensures) in
     let small = front-small l (c .args .day) (c .args .sheet .now) f n (c .args .uses .now) (c .args .shares .now) (c .ask-told .result) asked ok rule law (c .pre) (c .divide .last .shares) given in
     settling (factorsAt (c .ask-told .result)) l (c .args .sheet .now) (c .divide .last .shares) (l .counts .points) (c .pre) (ok .rows) small (c .credit .last .self) (c .credit .ensures .state)
 
@@ -105,8 +105,8 @@ returns-else-quantity-gt0 g c =
     let quantity = c .quantity-quantity .result in
     let total = c .weigh-total .result in
     let some : (ltb 0 quantity && eqb total 0) ≡ false =
-          ⊎-elim (λ b. and-right (ltb 0 quantity) (eqb total 0) (ne-eqb total 0 (b .1))) (λ b. and-left (ltb 0 quantity) (eqb total 0) (le-ltb 0 quantity b)) (c .else-quantity-gt0 .either) in
+    ⊎-elim (λ b. and-right (ltb 0 quantity) (eqb total 0) (ne-eqb total 0 (b .1))) (λ b. and-left (ltb 0 quantity) (eqb total 0) (le-ltb 0 quantity b)) (c .else-quantity-gt0 .either) in
     let d = done l (c .args .day) (c .args .sheet .now) f n (c .args .uses .now) (c .args .shares .now) (c .ask-told .result) asked ok rule law (c .pre)
-          (c .weigh-total .last .uses) (c .divide .last .shares) total quantity (c .loss-loss .result) (c .credit .last .self) (c .settle .last .self) (c .credit .last .sheet)
-          none (c .weigh-total .ensures .written) (c .weigh-total .ensures .total) (c .quantity-quantity .ensures) (c .loss-loss .ensures) some (c .divide .ensures) (c .credit .ensures .state) (c .credit .ensures .rows) (c .settle .ensures) in
+    (c .weigh-total .last .uses) (c .divide .last .shares) total quantity (c .loss-loss .result) (c .credit .last .self) (c .settle .last .self) (c .credit .last .sheet)
+    none (c .weigh-total .ensures .written) (c .weigh-total .ensures .total) (c .quantity-quantity .ensures) (c .loss-loss .ensures) some (c .divide .ensures) (c .credit .ensures .state) (c .credit .ensures .rows) (c .settle .ensures) in
     record { answer = d .answer; state = d .state; rows = d .rows; weighed = d .weighed; given = d .given; sound = d .sound }

@@ -3,7 +3,7 @@ use native.Mathlib.Omega.{arith}
 use Prim.Native.Nat.{ℕ}
 use Rattle.ledger.specs.Rows.{openSums, summable, rowAt}
 use Rattle.ledger.proofs.Rows.{every-at, openSums-none, openSums-more}
-use Rattle.ledger.proofs.Open.{open-sum-small}
+use Rattle.ledger.proofs.Ranges.{open-sum-small}
 use Rattle.ledger.proofs.book.rows.open_sums.Needs as need
 
 pub loop-i-holds : need.loop-i-holds

@@ -16,10 +16,11 @@ loop-i-again c =
     let s = c .args .sheet .now in
     let i = c .loop-i .i in
     let own = mayShare (c .args .traders) in
-    let served = isServed (c .args .segments) in
-    ( ap (λ (b : Bool). b && c .may-share-may-share .result) (c .loop-i .inv .0) ∙ ap (λ (b : Bool). every own s i && b) (c .may-share-may-share .ensures) ∙ every-more own s i
-    , ap (λ (b : Bool). b && isFree (rowAt s i)) (c .loop-i .inv .1) ∙ every-more isFree s i
-    , ap (λ (b : Bool). b && served (rowAt s i)) (c .loop-i .inv .2) ∙ every-more served s i )
+    let served = isServed (c .args .segments) in (
+      ap (λ (b : Bool). b && c .may-share-may-share .result) (c .loop-i .inv .0) ∙ ap (λ (b : Bool). every own s i && b) (c .may-share-may-share .ensures) ∙ every-more own s i,
+      ap (λ (b : Bool). b && isFree (rowAt s i)) (c .loop-i .inv .1) ∙ every-more isFree s i,
+      ap (λ (b : Bool). b && served (rowAt s i)) (c .loop-i .inv .2) ∙ every-more served s i,
+    )
 
 pub returns : need.returns
 returns c =
@@ -28,5 +29,5 @@ returns c =
     record {
       share = c .loop-i .inv .0 ∙ ap (λ (j : ℕ). every (mayShare (c .args .traders)) s j) e;
       free = c .loop-i .inv .1 ∙ ap (λ (j : ℕ). every isFree s j) e;
-      served = c .loop-i .inv .2 ∙ ap (λ (j : ℕ). every (isServed (c .args .segments)) s j) e
+      served = c .loop-i .inv .2 ∙ ap (λ (j : ℕ). every (isServed (c .args .segments)) s j) e;
     }

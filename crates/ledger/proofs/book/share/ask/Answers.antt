@@ -9,4 +9,4 @@ pub returns : need.returns
 returns g c =
     let w = c .args .weather in
     fill-by-all (λ (k : ℕ). g .P·Profile .tells (c .args .profile .now) k (w .temperature) (w .season)) (c .loop-segment .told) 8 (both 0 0) (c .loop-segment .inv .0)
-      (λ k h. c .loop-segment .inv .1 k (omega arith))
+    (λ k h. c .loop-segment .inv .1 k (omega arith))

@@ -20,11 +20,12 @@ loop-i-again c =
     let b = c .profile-use-own .ensures .bound in
     let m = weigh-sum f s i in-sheet in
     let t = c .loop-i .inv .1 in
-    let k = c .loop-i .inv .3 in
-    ( weigh-step f s us i _ in-uses in-sheet v (c .loop-i .inv .0)
-    , omega arith
-    , drop-set-lt (c .args .n) us i _ (omega arith) ∙ c .loop-i .inv .2
-    , omega arith )
+    let k = c .loop-i .inv .3 in (
+      weigh-step f s us i _ in-uses in-sheet v (c .loop-i .inv .0),
+      omega arith,
+      drop-set-lt (c .args .n) us i _ (omega arith) ∙ c .loop-i .inv .2,
+      omega arith,
+    )
 
 pub returns : need.returns
 returns c =
@@ -34,6 +35,6 @@ returns c =
     let at-n = ap (λ (j : ℕ). profileUses f (take j s)) e in
     record {
       written = front-and-rest (c .loop-i .uses) _ (c .args .uses .now) (c .args .n)
-        (ap (λ (j : ℕ). take j (c .loop-i .uses)) (sym e) ∙ c .loop-i .inv .0 ∙ at-n) (c .loop-i .inv .2);
-      total = c .loop-i .inv .1 ∙ ap sum at-n
+          (ap (λ (j : ℕ). take j (c .loop-i .uses)) (sym e) ∙ c .loop-i .inv .0 ∙ at-n) (c .loop-i .inv .2);
+      total = c .loop-i .inv .1 ∙ ap sum at-n;
     }
