@@ -30,15 +30,15 @@ pub(crate) struct Trader {
     metered: u64,
 }
 
-// How many there have been of each.
-#[derive(Clone, Copy)]
-pub(crate) struct Counts {
-    pub(crate) traders: u32,
-    pub(crate) points: usize,
-    pub(crate) opened: u32,
-    pub(crate) shared: u32,
-    pub(crate) readings: u32,
-    pub(crate) bookings: u32,
+// How many there have been: traders and points admitted, days opened and shared out, readings, and bookings with hand-overs.
+#[derive(Clone, Copy, PartialEq, Debug)]
+pub struct Counts {
+    pub traders: u32,
+    pub points: usize,
+    pub opened: u32,
+    pub shared: u32,
+    pub readings: u32,
+    pub bookings: u32,
 }
 
 #[derive(Drop)]

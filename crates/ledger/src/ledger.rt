@@ -15,6 +15,7 @@ ghost use Rattle.ledger.specs.Sharing.{shareAnswer, shareBook, shareSheet, sha
 ghost use Rattle.ledger.specs.History.{Leads, Goes, Means, TraderAdmitted, PointAdmitted, Opened, Entered, InflowTaken, Shared, OpenAbandoned, MeasuredAbandoned};
 ghost use Rattle.ledger.specs.declared.point.Point.{Point as Row};
 use crate::book::Book;
+use crate::book::Counts;
 use crate::day::MeasuredDay;
 use crate::day::OpenDay;
 use crate::day::Refused;
@@ -175,32 +176,11 @@ impl Ledger {
         self.book.metered(trader)
     }
 
-    // How many traders were admitted.
-    pub fn traders(&self) -> u32
-        ensures { λ r. ⌜ r ≡ now (self .entry) .book .counts .traders ⌝ }
+    // How many traders, points, days and readings there have been.
+    pub fn counts(&self) -> Counts
+        ensures { λ r. ⌜ r ≡ now (self .entry) .book .counts ⌝ }
     {
-        self.book.counts.traders
-    }
-
-    // How many points were admitted.
-    pub fn points(&self) -> usize
-        ensures { λ r. ⌜ r ≡ now (self .entry) .book .counts .points ⌝ }
-    {
-        self.book.counts.points
-    }
-
-    // How many days were opened.
-    pub fn days_opened(&self) -> u32
-        ensures { λ r. ⌜ r ≡ now (self .entry) .book .counts .opened ⌝ }
-    {
-        self.book.counts.opened
-    }
-
-    // How many days were shared out.
-    pub fn days_shared(&self) -> u32
-        ensures { λ r. ⌜ r ≡ now (self .entry) .book .counts .shared ⌝ }
-    {
-        self.book.counts.shared
+        self.book.counts
     }
 
     // The day number that is shared out next.

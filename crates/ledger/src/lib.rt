@@ -6,6 +6,9 @@ mod ledger;
 mod measured;
 mod point;
 
+pub use book::Counts;
+pub use book::CountsDebug;
+pub use book::CountsPartialEq;
 pub use day::MeasuredDay;
 pub use day::OpenDay;
 pub use day::Refused;
