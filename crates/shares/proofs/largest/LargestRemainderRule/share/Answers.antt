@@ -1,8 +1,8 @@
 use native.Mathlib.Omega.{arith}
-use mathlib.Core.Path.{_≡_, refl, sym, ap, _∙_}
+use mathlib.Core.Path.{_∙_}
 use mathlib.Core.Logic.{inl, inr, ⊎-elim}
 use Rattle.shares.specs.Rules.{largest}
-use Rattle.shares.proofs.Guarding.{shared, wrote-none, wrote}
+use Rattle.shares.proofs.Guarding.{shared, wrote-none}
 use Rattle.shares.proofs.LargestLaws.{searchable}
 use Rattle.shares.proofs.largest.LargestRemainderRule.share.Needs as need
 
