@@ -3,7 +3,7 @@ ghost use mathlib.Core.Path.{_≡_};
 ghost use mathlib.Core.Bool.{true, cond};
 ghost use lib.ListN.{replicate};
 ghost use Rattle.std.specs.Results.{isOk};
-ghost use Rattle.profiles.specs.Laws.{whole};
+ghost use Rattle.profiles.specs.Laws.{whole, both, Same};
 ghost use Rattle.profiles.specs.Sheets.{verdict};
 ghost use Rattle.profiles.specs.Tables.{tableSegments, tableCells, tableTells, Reads};
 use crate::factors::Factors;
@@ -27,7 +27,8 @@ pub struct TableProfile {
 impl TableProfile {
     // A table that tells 0 until a sheet is filled in.
     pub fn new() -> TableProfile
-        ensures { λ r. ⌜ r .sheet .numbers ≡ replicate tableCells 0 ⌝ }
+        ensures holds { λ r. ⌜ r .sheet .numbers ≡ replicate tableCells 0 ⌝ }
+        ensures nought { λ r. ⌜ Same (tableTells (r .sheet .numbers)) (λ _ _ _. both 0 0) ⌝ }
     {
         TableProfile {
             sheet: Sheet::filled(0),

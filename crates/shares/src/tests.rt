@@ -36,7 +36,7 @@ fn within_limits<R: ShareRule>(rule: &R) -> bool {
         rule,
         MAX_QUANTITY,
         &[1, 0, 1],
-        &[500_000_000, 0, 500_000_000],
+        &[MAX_QUANTITY / 2, 0, MAX_QUANTITY / 2],
     )
         && gives(rule, 3, &[MAX_WEIGHT, MAX_WEIGHT, MAX_WEIGHT], &[1, 1, 1])
 }

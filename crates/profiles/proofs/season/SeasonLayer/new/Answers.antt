@@ -5,7 +5,7 @@ use Rattle.profiles.proofs.season.SeasonLayer.new.Needs as need
 
 pub returns : need.returns
 returns g c = record {
-  made = (refl, refl, c .filled .ensures);
+  holds = (refl, refl, c .filled .ensures);
   idle = λ asked t season.
       let below = g .P·Profile .tells (c .args .below) asked t season in
       ap (λ numbers. layered (c .args .segment) numbers asked t season below) (c .filled .ensures)
