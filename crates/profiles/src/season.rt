@@ -13,12 +13,11 @@ use crate::factors::Factors;
 use crate::factors::WHOLE;
 use crate::profile::Profile;
 use crate::sheet::Sheet;
-use crate::weather::COLUMNS;
 use crate::weather::LAST_SEASON;
-use crate::weather::column;
+use crate::weather::place;
 use refusals::Refusal;
 
-// Four rows of `COLUMNS`, one for each season.
+// Four rows, one for each season, of 381 columns.
 const CELLS: usize = 1524;
 
 // The largest season number: twice the whole.
@@ -87,8 +86,7 @@ pub impl<P: Profile> Profile for SeasonLayer<P> as SeasonLayerTells {
         if segment != self.segment || season > LAST_SEASON {
             return told;
         }
-        let number = self.sheet
-            .at(season as usize * COLUMNS + column(temperature));
+        let number = self.sheet.at(place(season as u32, temperature));
         let day = told.day as u64 * number as u64 / WHOLE as u64;
         Factors {
             multiplier: told.multiplier,

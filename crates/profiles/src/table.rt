@@ -10,12 +10,11 @@ use crate::factors::Factors;
 use crate::factors::WHOLE;
 use crate::profile::Profile;
 use crate::sheet::Sheet;
-use crate::weather::COLUMNS;
-use crate::weather::column;
 use crate::weather::in_range;
+use crate::weather::place;
 use refusals::Refusal;
 
-// Two rows of `COLUMNS`: residential, then business.
+// Two rows, residential and business, of 381 columns.
 const CELLS: usize = 762;
 
 // Segment 0 is residential, segment 1 business. The day factor is the multiplier.
@@ -60,8 +59,7 @@ pub impl Profile for TableProfile as TableProfileTells {
         if segment >= Self::SEGMENTS || !in_range(temperature, season) {
             return Factors::NONE;
         }
-        let factor = self.sheet
-            .at(segment as usize * COLUMNS + column(temperature));
+        let factor = self.sheet.at(place(segment, temperature));
         Factors {
             multiplier: factor,
             day: factor,

@@ -1,4 +1,4 @@
-use mathlib.Core.Path.{_≡_, refl, ap, _∙_}
+use mathlib.Core.Path.{refl, ap, _∙_}
 use Rattle.profiles.specs.Layers.{layered}
 use Rattle.profiles.proofs.Layering.{no-season, unchanged}
 use Rattle.profiles.proofs.season.SeasonLayer.new.Needs as need
