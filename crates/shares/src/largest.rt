@@ -1,5 +1,5 @@
-// The rule of the largest remainders, without a place to sort in: the cut between those that get a litre more and
-// those that do not is searched for among the remainders, which stand in the sheet of shares until then.
+// The rule of the largest remainders, with no place to sort in: the remainders stand in the sheet of shares until the
+// cut between those that get a litre more and those that do not is found among them, by halving.
 ghost use mathlib.Core.Path.{_≡_};
 ghost use mathlib.Core.Bool.{true};
 ghost use Prim.Native.Nat.{_-_, _<_, _≤_};
