@@ -12,10 +12,6 @@ use Rattle.std.proofs.shelf.Tests.{lt-ltb}
 use Rattle.std.proofs.shelf.Ways.{tells}
 use Rattle.shares.specs.Fair.{maxQuantity, maxWeights, maxWeight, fair}
 
--- the most that the weights can sum to
-abbrev pub maxTotal : ℕ
-maxTotal = maxWeight * maxWeights
-
 -- how many weights are past the limit
 abbrev pub over : List ℕ → ℕ
 over ws = countBy (λ w. ltb maxWeight w) ws

@@ -18,9 +18,9 @@ use Rattle.std.proofs.shelf.Edits.{fill-by-more}
 use Rattle.std.proofs.shelf.Sums.{sumBy-cons, sumBy-more, sumBy-take-le, countBy-le-length, countBy-more-yes, countBy-more-no}
 use Rattle.std.proofs.shelf.Tests.{cases-lt, le-ltb, lt-ltb, eq-eqb, ne-eqb}
 use Rattle.std.proofs.shelf.Counted.{fill-by-all, length-map-counting, getD-map-counting, sumBy-map-counting-more}
-use Rattle.shares.specs.Fair.{maxQuantity, maxWeight, fair, Near}
+use Rattle.shares.specs.Fair.{maxQuantity, maxWeights, maxWeight, maxTotal, fair, Near}
 use Rattle.shares.specs.Rules.{floors, remainders, left, ahead, largest-share, largest}
-use Rattle.shares.proofs.Fairness.{over, parts}
+use Rattle.shares.proofs.Fairness.{over, parts, total-limit}
 use Rattle.shares.proofs.Counts.{one-if, higher, reach, level, Cut, cut-below, reach-split, served, over-cut, under-cut, at-cut}
 
 module _ (a s : ℕ) (some : 0 < s) where
@@ -298,8 +298,20 @@ sofar-more a ws t i m n x out new in′ h is share rest = record {
   still = λ k le. rw is (getD-set-other out i k x 0 (omega arith) ∙ h .still k (omega arith));
 }
 
--- what the search for the cut asks
-pub searchable : (a : ℕ) (ws : List ℕ) (t l : ℕ) (out : List ℕ) → fair a ws ≡ true → t ≡ sum ws → out ≡ remainders a ws → l ≡ left a ws → (l ≤ length out) × (higher out t ≤ l)
-searchable a ws t l out y total o e =
+-- what finding the cut asks
+pub record Cuttable (t l : ℕ) (out : List ℕ) : Type 0 where
+  pub places : length out ≤ maxWeights
+  pub limit : t ≤ maxTotal
+  pub most : l ≤ length out
+  pub high : higher out t ≡ 0
+
+pub cuttable : (a : ℕ) (ws : List ℕ) (t l : ℕ) (out : List ℕ) → fair a ws ≡ true → t ≡ sum ws → out ≡ remainders a ws → l ≡ left a ws → Cuttable t l out
+cuttable a ws t l out y total o e =
     let p = parts a ws y in
-    rw (o, total) (omega (arith, left-within a ws (p .some), length-remainders a ws), omega (arith, none-over a ws (p .some)))
+    let long : length out ≡ length ws = ap length o ∙ length-remainders a ws in
+    record {
+      places = omega (arith, p .count);
+      limit = omega (arith, p .count, total-limit ws (p .weights));
+      most = omega (arith, left-within a ws (p .some));
+      high = rw (o, total) (none-over a ws (p .some));
+    }

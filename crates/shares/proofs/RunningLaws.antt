@@ -13,10 +13,10 @@ use Rattle.std.specs.shelf.Lists.{sum}
 use Rattle.std.proofs.shelf.Bits.{mul-le, div-add-mod', le-div}
 use Rattle.std.proofs.shelf.Sums.{sumBy-more, sumBy-take-le}
 use Rattle.std.proofs.shelf.Counted.{fill-by-all, length-map-counting, getD-map-counting, sumBy-map-counting-more}
-use Rattle.shares.specs.Fair.{maxQuantity, fair, Near}
+use Rattle.shares.specs.Fair.{maxQuantity, maxTotal, fair, Near}
 use Rattle.shares.specs.Rules.{upto, running-share, running}
 use Rattle.shares.proofs.Guarding.{shared}
-use Rattle.shares.proofs.Fairness.{maxTotal, parts, total-limit}
+use Rattle.shares.proofs.Fairness.{parts, total-limit}
 
 -- the quotients by s of x and of z more
 pub record Gap (s x z : ℕ) : Type 0 where
