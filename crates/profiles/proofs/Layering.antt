@@ -1,12 +1,12 @@
 -- What a layer leaves as it is told below.
-use mathlib.Core.Path.{_≡_, refl, sym, ap, subst, _∙_}
-use mathlib.Core.Bool.{Bool, true, false, cond}
+use mathlib.Core.Path.{_≡_, refl, sym, ap, _∙_}
+use mathlib.Core.Bool.{false}
 use mathlib.Core.Logic.{_⊎_, ⊎-elim}
 use mathlib.Core.List.{List}
-use Prim.Native.Nat.{ℕ, _<_, _≤_, _*_, _/_, min}
+use Prim.Native.Nat.{ℕ, _<_, _≤_}
 use native.Mathlib.Nat.{zero-mul, zero-div, mul-div-cancel}
 use native.Mathlib.Omega.{arith}
-use lib.Dec.{eqb, ltb, lit<}
+use lib.Dec.{eqb, lit<}
 use lib.IntN.{ℤ}
 use lib.ListN.{getD, replicate}
 use Rattle.std.proofs.shelf.Tests.{cases-lt, cond-false, cond-both, ne-eqb}
@@ -14,7 +14,7 @@ use Rattle.std.proofs.shelf.Lists.{getD-replicate}
 use Rattle.std.proofs.shelf.Signed.{ints}
 use Rattle.std.proofs.shelf.Ways.{tells}
 use Rattle.profiles.specs.declared.factors.Factors.{Factors}
-use Rattle.profiles.specs.Asked.{seasons, columns, asked, column, place}
+use Rattle.profiles.specs.Asked.{columns, asked, column, place}
 use Rattle.profiles.specs.Laws.{whole, both, Small}
 use Rattle.profiles.specs.Layers.{layerCells, scaled, layered}
 

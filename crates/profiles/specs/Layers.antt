@@ -38,7 +38,7 @@ layerTells own numbers below segment t season = layered own numbers segment t se
 -- a layer passes multipliers and the other segments on; its own segment's day factor is scaled by the season's k-th
 -- number at the k-th tenth, and by that of the nearer end colder or warmer than the sheet goes
 pub record Scales (own : ℕ) (sheet : List ℕ) (below tells : ℕ → ℤ → ℕ → Factors) : Type 0 where
-  pub multiplier : (segment : ℕ) (t : ℤ) (season : ℕ) → tells segment t season .multiplier ≡ below segment t season .multiplier
+  pub multipliers : (segment : ℕ) (t : ℤ) (season : ℕ) → tells segment t season .multiplier ≡ below segment t season .multiplier
   pub others : (segment : ℕ) (t : ℤ) (season : ℕ) → (segment ≡ own → ⊥) → tells segment t season ≡ below segment t season
   pub inside : (k season : ℕ) → k < columns → season < seasons → tells own (firstTenth +ℤ pos k) season .day ≡ scaled (below own (firstTenth +ℤ pos k) season .day) (getD sheet (season * columns + k) 0)
   pub colder : (t : ℤ) (season : ℕ) → t <ℤ firstTenth → season < seasons → tells own t season .day ≡ scaled (below own t season .day) (getD sheet (season * columns) 0)

@@ -20,3 +20,6 @@ pub use season::SeasonLayerTells;
 pub use table::TableProfile;
 pub use table::TableProfileTells;
 pub use weather::in_range;
+
+#[cfg(test)]
+mod tests;

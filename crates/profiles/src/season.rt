@@ -1,24 +1,23 @@
 // A layer over any profile that scales the day factor of one segment by season and temperature.
 ghost use mathlib.Core.Path.{_≡_};
 ghost use mathlib.Core.Bool.{true, cond};
-ghost use Prim.Native.Nat.{ℕ, _<_, _≤_};
-ghost use lib.IntN.{ℤ};
+ghost use Prim.Native.Nat.{_<_, _≤_};
 ghost use lib.ListN.{replicate};
 ghost use Rattle.std.specs.Results.{Cases, isOk};
+ghost use Rattle.std.specs.Vec.{made};
 ghost use Rattle.refusals.specs.declared.Refusal.the-variants.{Particulars};
-ghost use Rattle.profiles.specs.Laws.{whole};
+ghost use Rattle.profiles.specs.Laws.{whole, Same};
 ghost use Rattle.profiles.specs.Layers.{lastSegment, layerCells, maxSeasonNumber, layerTells, Scales};
 ghost use Rattle.profiles.specs.Sheets.{verdict};
 use crate::factors::Factors;
 use crate::factors::WHOLE;
 use crate::profile::Profile;
 use crate::sheet::Sheet;
-use crate::weather::COLUMNS;
 use crate::weather::LAST_SEASON;
-use crate::weather::column;
+use crate::weather::place;
 use refusals::Refusal;
 
-// Four rows of `COLUMNS`, one for each season.
+// Four rows, one for each season, of 381 columns.
 const CELLS: usize = 1524;
 
 // The largest season number: twice the whole.
@@ -44,8 +43,8 @@ pub struct LayerRefused<P> {
 impl<P: Profile> SeasonLayer<P> {
     // A layer for one segment that changes nothing until a sheet is filled in.
     pub fn new(below: P, segment: u32) -> Result<SeasonLayer<P>, LayerRefused<P>>
-        ensures made { λ r. ⌜ Cases r (λ l. (l .below ≡ below) × (l .segment ≡ segment) × (l .sheet .numbers ≡ replicate layerCells whole)) (λ e. (e .why ≡ Particulars) × (e .below ≡ below) × (lastSegment < segment)) ⌝ }
-        ensures idle { λ r. ⌜ Cases r (λ l. (asked : ℕ) (t : ℤ) (season : ℕ) → layerTells (l .segment) (l .sheet .numbers) (P·Profile .tells (l .below)) asked t season ≡ P·Profile .tells below asked t season) (λ _. ⊥ → ⊥) ⌝ }
+        ensures holds { λ r. ⌜ Cases r (λ l. (l .below ≡ below) × (l .segment ≡ segment) × (l .sheet .numbers ≡ replicate layerCells whole)) (λ e. (e .why ≡ Particulars) × (e .below ≡ below) × (lastSegment < segment)) ⌝ }
+        ensures idle { λ r. ⌜ made r (λ l. Same (layerTells (l .segment) (l .sheet .numbers) (P·Profile .tells (l .below))) (P·Profile .tells below)) ⌝ }
     {
         if segment > LAST_SEGMENT {
             return Err(LayerRefused {
@@ -87,8 +86,7 @@ pub impl<P: Profile> Profile for SeasonLayer<P> as SeasonLayerTells {
         if segment != self.segment || season > LAST_SEASON {
             return told;
         }
-        let number = self.sheet
-            .at(season as usize * COLUMNS + column(temperature));
+        let number = self.sheet.at(place(season as u32, temperature));
         let day = told.day as u64 * number as u64 / WHOLE as u64;
         Factors {
             multiplier: told.multiplier,

@@ -3,19 +3,18 @@ ghost use mathlib.Core.Path.{_≡_};
 ghost use mathlib.Core.Bool.{true, cond};
 ghost use lib.ListN.{replicate};
 ghost use Rattle.std.specs.Results.{isOk};
-ghost use Rattle.profiles.specs.Laws.{whole};
+ghost use Rattle.profiles.specs.Laws.{whole, both, Same};
 ghost use Rattle.profiles.specs.Sheets.{verdict};
 ghost use Rattle.profiles.specs.Tables.{tableSegments, tableCells, tableTells, Reads};
 use crate::factors::Factors;
 use crate::factors::WHOLE;
 use crate::profile::Profile;
 use crate::sheet::Sheet;
-use crate::weather::COLUMNS;
-use crate::weather::column;
 use crate::weather::in_range;
+use crate::weather::place;
 use refusals::Refusal;
 
-// Two rows of `COLUMNS`: residential, then business.
+// Two rows, residential and business, of 381 columns.
 const CELLS: usize = 762;
 
 // Segment 0 is residential, segment 1 business. The day factor is the multiplier.
@@ -27,7 +26,8 @@ pub struct TableProfile {
 impl TableProfile {
     // A table that tells 0 until a sheet is filled in.
     pub fn new() -> TableProfile
-        ensures { λ r. ⌜ r .sheet .numbers ≡ replicate tableCells 0 ⌝ }
+        ensures holds { λ r. ⌜ r .sheet .numbers ≡ replicate tableCells 0 ⌝ }
+        ensures nought { λ r. ⌜ Same (tableTells (r .sheet .numbers)) (λ _ _ _. both 0 0) ⌝ }
     {
         TableProfile {
             sheet: Sheet::filled(0),
@@ -59,8 +59,7 @@ pub impl Profile for TableProfile as TableProfileTells {
         if segment >= Self::SEGMENTS || !in_range(temperature, season) {
             return Factors::NONE;
         }
-        let factor = self.sheet
-            .at(segment as usize * COLUMNS + column(temperature));
+        let factor = self.sheet.at(place(segment, temperature));
         Factors {
             multiplier: factor,
             day: factor,

@@ -1,20 +1,16 @@
 -- What `fair` says, part by part.
-use mathlib.Core.Path.{_≡_, refl, sym, ap, _∙_}
-use mathlib.Core.Bool.{Bool, true, false, cond, _&&_}
+use mathlib.Core.Path.{_≡_}
+use mathlib.Core.Bool.{true, cond}
 use mathlib.Core.List.{List, [], _∷_}
 use Prim.Native.Nat.{ℕ, _+_, _*_, _<_, _≤_}
 use native.Mathlib.Omega.{arith}
-use lib.Dec.{eqb, leb, ltb}
-use lib.ListN.{length, getD, take}
-use Rattle.std.specs.shelf.Lists.{sum, sumBy, countBy}
+use lib.Dec.{ltb}
+use lib.ListN.{length, getD}
+use Rattle.std.specs.shelf.Lists.{sum, countBy}
 use Rattle.std.proofs.shelf.Sums.{sumBy-cons, sumBy-take-le, countBy-more-yes}
-use Rattle.std.proofs.shelf.Tests.{cases-lt, lt-ltb}
+use Rattle.std.proofs.shelf.Tests.{lt-ltb}
 use Rattle.std.proofs.shelf.Ways.{tells}
 use Rattle.shares.specs.Fair.{maxQuantity, maxWeights, maxWeight, fair}
-
--- the most that the weights can sum to
-abbrev pub maxTotal : ℕ
-maxTotal = maxWeight * maxWeights
 
 -- how many weights are past the limit
 abbrev pub over : List ℕ → ℕ

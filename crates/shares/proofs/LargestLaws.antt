@@ -1,27 +1,26 @@
 -- The laws of the largest remainders.
 use mathlib.Core.Path.{_≡_, refl, sym, ap, subst, _∙_}
-use mathlib.Core.Bool.{Bool, true, false, cond}
-use mathlib.Core.Logic.{_⊎_, inl, inr, ⊎-elim}
+use mathlib.Core.Bool.{true}
+use mathlib.Core.Logic.{⊎-elim}
 use mathlib.Core.List.{List, [], _∷_, map}
 use Prim.Native.Nat.{ℕ, zero, suc, _+_, _-_, _*_, _/_, _%_, _^_, _<_, _≤_, min}
-use native.Mathlib.Nat.{add-zero, mul-add, add-mul, mul-zero, zero-mod, zero-div, mul-comm, mul-one, mod-lt, div-le-self, mul-le-mul-left, mul-lt-mul-of-pos-left}
+use native.Mathlib.Nat.{add-zero, mul-add, add-mul, mul-zero, zero-mod, zero-div, mul-comm, mul-one, mod-lt, div-le-self, mul-lt-mul-of-pos-left}
 use native.Mathlib.Numerals.{add-one}
 use native.Mathlib.Omega.{arith}
-use lib.Dec.{eqb, leb, ltb}
+use lib.Dec.{eqb, ltb}
 use lib.ListN.{length, getD, take, set}
 use lib.Seq.{take-all}
 use Rattle.std.specs.Iters.{counting}
-use Rattle.std.specs.shelf.Lists.{sum, sumBy, countBy}
+use Rattle.std.specs.shelf.Lists.{sum}
 use Rattle.std.proofs.shelf.Bits.{div-add-mod', mul-le}
 use Rattle.std.proofs.shelf.Lists.{length-map, getD-map, ext-getD, getD-set-other}
 use Rattle.std.proofs.shelf.Edits.{fill-by-more}
 use Rattle.std.proofs.shelf.Sums.{sumBy-cons, sumBy-more, sumBy-take-le, countBy-le-length, countBy-more-yes, countBy-more-no}
 use Rattle.std.proofs.shelf.Tests.{cases-lt, le-ltb, lt-ltb, eq-eqb, ne-eqb}
-use Rattle.std.proofs.shelf.Ways.{tells}
 use Rattle.std.proofs.shelf.Counted.{fill-by-all, length-map-counting, getD-map-counting, sumBy-map-counting-more}
-use Rattle.shares.specs.Fair.{maxQuantity, maxWeight, fair, Near}
+use Rattle.shares.specs.Fair.{maxQuantity, maxWeights, maxWeight, maxTotal, fair, Near}
 use Rattle.shares.specs.Rules.{floors, remainders, left, ahead, largest-share, largest}
-use Rattle.shares.proofs.Fairness.{over, Parts, parts, total-limit}
+use Rattle.shares.proofs.Fairness.{over, parts, total-limit}
 use Rattle.shares.proofs.Counts.{one-if, higher, reach, level, Cut, cut-below, reach-split, served, over-cut, under-cut, at-cut}
 
 module _ (a s : ℕ) (some : 0 < s) where
@@ -121,6 +120,16 @@ module _ (a : ℕ) (ws : List ℕ) (some : 0 < sum ws) where
   unfolding ahead
   exact-none i in′ z = let e = ap (higher (remainders a ws)) z in omega (arith, left-positive)
 
+  -- a place that gets a litre more has a remainder
+  remainder-some : (i : ℕ) → i < length ws → ahead (remainders a ws) i < left a ws → 0 < a * getD ws i 0 % sum ws
+  remainder-some i in′ y =
+      ⊎-elim
+      (λ h. h)
+      (λ none.
+      let z : getD (remainders a ws) i 0 ≡ 0 = omega (arith, remainder-at a ws i in′) in
+      absurd (omega (arith, exact-none i in′ z)))
+      (cases-lt 0 (a * getD ws i 0 % sum ws))
+
   pub share-near : (i : ℕ) → i < length ws → Near a (sum ws) (getD ws i 0) (largest-share a ws i)
   unfolding largest-share
   share-near i in′ =
@@ -128,12 +137,13 @@ module _ (a : ℕ) (ws : List ℕ) (some : 0 < sum ws) where
       let x = a * getD ws i 0 in
       let q = x / s in
       let f = floor-at a ws i in′ in
-      let r = remainder-at a ws i in′ in
       let d = div-add-mod' x s in
       let low = mod-lt x some in
       let one : (q + 1) * s ≡ q * s + s = add-mul q 1 s ∙ ap (λ y. q * s + y) (omega arith) in
       ⊎-elim
-      (λ y. let pos : 0 < x % s = ⊎-elim (λ h. h) (λ h. absurd (omega (arith, exact-none i in′ (omega arith)))) (cases-lt 0 (x % s)) in rw (f, lt-ltb (ahead (remainders a ws) i) (left a ws) y) (omega arith, omega arith))
+      (λ y.
+      let pos = remainder-some i in′ y in
+      rw (f, lt-ltb (ahead (remainders a ws) i) (left a ws) y) (omega arith, omega arith))
       (λ n. rw (f, le-ltb (ahead (remainders a ws) i) (left a ws) n, add-zero q) (omega arith, omega arith))
       (cases-lt (ahead (remainders a ws) i) (left a ws))
 
@@ -288,8 +298,20 @@ sofar-more a ws t i m n x out new in′ h is share rest = record {
   still = λ k le. rw is (getD-set-other out i k x 0 (omega arith) ∙ h .still k (omega arith));
 }
 
--- what the search for the cut asks
-pub searchable : (a : ℕ) (ws : List ℕ) (t l : ℕ) (out : List ℕ) → fair a ws ≡ true → t ≡ sum ws → out ≡ remainders a ws → l ≡ left a ws → (l ≤ length out) × (higher out t ≤ l)
-searchable a ws t l out y total o e =
+-- what finding the cut asks
+pub record Cuttable (t l : ℕ) (out : List ℕ) : Type 0 where
+  pub places : length out ≤ maxWeights
+  pub limit : t ≤ maxTotal
+  pub most : l ≤ length out
+  pub high : higher out t ≡ 0
+
+pub cuttable : (a : ℕ) (ws : List ℕ) (t l : ℕ) (out : List ℕ) → fair a ws ≡ true → t ≡ sum ws → out ≡ remainders a ws → l ≡ left a ws → Cuttable t l out
+cuttable a ws t l out y total o e =
     let p = parts a ws y in
-    rw (o, total) (omega (arith, left-within a ws (p .some), length-remainders a ws), omega (arith, none-over a ws (p .some)))
+    let long : length out ≡ length ws = ap length o ∙ length-remainders a ws in
+    record {
+      places = omega (arith, p .count);
+      limit = omega (arith, p .count, total-limit ws (p .weights));
+      most = omega (arith, left-within a ws (p .some));
+      high = rw (o, total) (none-over a ws (p .some));
+    }

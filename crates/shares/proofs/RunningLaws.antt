@@ -1,22 +1,22 @@
 -- The laws of the running rule.
-use mathlib.Core.Path.{_≡_, refl, sym, ap, subst, _∙_}
-use mathlib.Core.Bool.{Bool, true, false, cond}
-use mathlib.Core.List.{List, [], _∷_, map}
-use Prim.Native.Nat.{ℕ, zero, suc, _+_, _-_, _*_, _/_, _%_, _^_, _<_, _≤_}
-use native.Mathlib.Nat.{mul-add, add-mul, mul-zero, zero-div, mul-div-cancel, mul-comm, mod-lt}
+use mathlib.Core.Path.{_≡_, sym, ap, subst, _∙_}
+use mathlib.Core.Bool.{true, cond}
+use mathlib.Core.List.{List, map}
+use Prim.Native.Nat.{ℕ, zero, suc, _+_, _-_, _*_, _/_, _^_, _<_, _≤_}
+use native.Mathlib.Nat.{mul-add, add-mul, mul-zero, zero-div, mul-div-cancel, mod-lt}
 use native.Mathlib.Numerals.{add-one}
 use native.Mathlib.Omega.{arith}
 use lib.ListN.{length, getD, take}
 use lib.Seq.{take-all}
 use Rattle.std.specs.Iters.{counting}
-use Rattle.std.specs.shelf.Lists.{sum, sumBy}
+use Rattle.std.specs.shelf.Lists.{sum}
 use Rattle.std.proofs.shelf.Bits.{mul-le, div-add-mod', le-div}
 use Rattle.std.proofs.shelf.Sums.{sumBy-more, sumBy-take-le}
 use Rattle.std.proofs.shelf.Counted.{fill-by-all, length-map-counting, getD-map-counting, sumBy-map-counting-more}
-use Rattle.shares.specs.Fair.{maxQuantity, fair, Near}
-use Rattle.shares.specs.Rules.{upto, running-share, running, by-place}
+use Rattle.shares.specs.Fair.{maxQuantity, maxTotal, fair, Near}
+use Rattle.shares.specs.Rules.{upto, running-share, running}
 use Rattle.shares.proofs.Guarding.{shared}
-use Rattle.shares.proofs.Fairness.{maxTotal, Parts, parts, total-limit}
+use Rattle.shares.proofs.Fairness.{parts, total-limit}
 
 -- the quotients by s of x and of z more
 pub record Gap (s x z : ℕ) : Type 0 where

@@ -18,6 +18,10 @@ maxWeights = 4096
 abbrev pub maxWeight : ℕ
 maxWeight = 2_000_000
 
+-- the most that the weights can sum to
+abbrev pub maxTotal : ℕ
+maxTotal = maxWeight * maxWeights
+
 -- the quantity, the number of weights and each weight are within their limits, and the weights are not all 0
 unfoldable pub fair : ℕ → List ℕ → Bool
 fair a ws = leb a maxQuantity && (leb (length ws) maxWeights && (eqb (countBy (λ w. ltb maxWeight w) ws) 0 && ltb 0 (sum ws)))

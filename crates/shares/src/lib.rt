@@ -11,3 +11,6 @@ pub use rule::MAX_WEIGHTS;
 pub use rule::ShareRule;
 pub use running::Running;
 pub use running::RunningRule;
+
+#[cfg(test)]
+mod tests;

@@ -19,4 +19,7 @@ loop-r-again c =
     ]
 
 pub returns : need.returns
-returns c = c .loop-r .inv .1 ∙ ap (λ l. higher l (c .args .t)) (take-all _ _ (c .loop-r-test .left))
+returns c = record {
+  count = c .loop-r .inv .1 ∙ ap (λ l. higher l (c .args .t)) (take-all _ _ (c .loop-r-test .left));
+  few = omega arith;
+}

@@ -1,27 +1,27 @@
 use native.Mathlib.Omega.{arith}
-use mathlib.Core.Path.{_≡_, ap, sym, _∙_}
+use mathlib.Core.Path.{_≡_, sym, _∙_}
 use Prim.Native.Nat.{_<_}
 use lib.ListN.{getD, length}
 use Rattle.shares.specs.Rules.{remainders}
-use Rattle.shares.proofs.LargestLaws.{Handed, handed, handed-all, Sofar, sofar-none, sofar-more}
+use Rattle.shares.proofs.LargestLaws.{handed, handed-all, sofar-none, sofar-more}
 use Rattle.shares.proofs.largest.hand_out.Needs as need
 use Rattle.shares.proofs.largest.hand_out.Needs.{then-r-t, else-r-t·then-r-t-2·then-more-gt0, else-r-t·else-r-t-2, else-r-t-2·by·then-r-t-2·else-more-gt0, else-r-t-2·by·else-r-t-2}
 
 pub mul-floor : need.mul-floor
-mul-floor c = record { fits = handed (c .args .quantity) (c .args .weights .now) (c .loop-i .i) (c .args .total) (c .args .t) (c .loop-i .more) (c .pre .fairly) (c .pre .whole) (c .loop-i-test .taken) (c .pre .few) (c .pre .enough) (c .loop-i .inv .rest) .product-fits }
+mul-floor c = record { fits = handed _ _ _ _ _ _ (c .pre .fairly) (c .pre .whole) (c .loop-i-test .taken) (c .pre .few) (c .pre .enough) (c .loop-i .inv .rest) .product-fits }
 
 pub add-out : need.add-out
-add-out c = record { fits = handed (c .args .quantity) (c .args .weights .now) (c .loop-i .i) (c .args .total) (c .args .t) (c .loop-i .more) (c .pre .fairly) (c .pre .whole) (c .loop-i-test .taken) (c .pre .few) (c .pre .enough) (c .loop-i .inv .rest) .floor-fits }
+add-out c = record { fits = handed _ _ _ _ _ _ (c .pre .fairly) (c .pre .whole) (c .loop-i-test .taken) (c .pre .few) (c .pre .enough) (c .loop-i .inv .rest) .floor-fits }
 
 pub add-out-then-more-gt0 : need.add-out-then-more-gt0
-add-out-then-more-gt0 c = record { fits = handed (c .args .quantity) (c .args .weights .now) (c .loop-i .i) (c .args .total) (c .args .t) (c .loop-i .more) (c .pre .fairly) (c .pre .whole) (c .loop-i-test .taken) (c .pre .few) (c .pre .enough) (c .loop-i .inv .rest) .floor-fits }
+add-out-then-more-gt0 c = record { fits = handed _ _ _ _ _ _ (c .pre .fairly) (c .pre .whole) (c .loop-i-test .taken) (c .pre .few) (c .pre .enough) (c .loop-i .inv .rest) .floor-fits }
 
 pub loop-i-holds : need.loop-i-holds
 loop-i-holds c = sofar-none _ _ _ _ _ (c .pre .rest) (c .pre .rems)
 
 pub loop-i-again : need.loop-i-again
 loop-i-again c =
-    let h = handed (c .args .quantity) (c .args .weights .now) (c .loop-i .i) (c .args .total) (c .args .t) (c .loop-i .more) (c .pre .fairly) (c .pre .whole) (c .loop-i-test .taken) (c .pre .few) (c .pre .enough) (c .loop-i .inv .rest) in
+    let h = handed _ _ _ _ _ _ (c .pre .fairly) (c .pre .whole) (c .loop-i-test .taken) (c .pre .few) (c .pre .enough) (c .loop-i .inv .rest) in
     let inside : c .loop-i .i < length (c .loop-i .out) = omega arith in
     let here = c .loop-i .inv .still (c .loop-i .i) (omega arith) in
     elim (c .if-r-t .came) [

@@ -1,11 +1,10 @@
 use native.Mathlib.Omega.{arith}
-use mathlib.Core.Path.{_≡_, refl, ap, sym, subst, _∙_}
-use Prim.Native.Nat.{ℕ, _≤_}
+use mathlib.Core.Path.{refl, sym, subst}
+use Prim.Native.Nat.{_≤_}
 use lib.ListN.{getD, length-set}
 use Rattle.std.proofs.shelf.Lists.{ext-getD}
 use Rattle.std.proofs.shelf.Edits.{fill-by-more}
-use borrow.Author.Needs.{needs}
-use Rattle.profiles.proofs.Limits.{over, over-more, within, all-taken, taken, too-large}
+use Rattle.profiles.proofs.Limits.{over-more, within, all-taken, taken, too-large}
 use Rattle.profiles.proofs.sheet.Sheet.fill.Needs as need
 
 pub loop-i-again : need.loop-i-again

@@ -1,9 +1,9 @@
 use native.Mathlib.Omega.{arith}
-use mathlib.Core.Path.{_≡_, refl, sym, ap, _∙_}
+use mathlib.Core.Path.{_∙_}
 use mathlib.Core.Logic.{inl, inr, ⊎-elim}
 use Rattle.shares.specs.Rules.{largest}
-use Rattle.shares.proofs.Guarding.{shared, wrote-none, wrote}
-use Rattle.shares.proofs.LargestLaws.{searchable}
+use Rattle.shares.proofs.Guarding.{shared, wrote-none}
+use Rattle.shares.proofs.LargestLaws.{cuttable}
 use Rattle.shares.proofs.largest.LargestRemainderRule.share.Needs as need
 
 pub returns-then-weights-out : need.returns-then-weights-out
@@ -15,8 +15,8 @@ part-rest-requires c κs =
     let s = shared _ _ (c .fair-total-total .result) (c .fair-total-total .ensures) (c .if-total-eq0 .left) in
     record { fairly = s .0; whole = s .1; some = omega arith; same = c .if-weights-out .left }
 
-pub threshold-t-requires : need.threshold-t-requires
-threshold-t-requires c κs =
-    let s = shared (c .args .quantity) (c .args .weights .now) (c .fair-total-total .result) (c .fair-total-total .ensures) (c .if-total-eq0 .left) in
-    let f = searchable (c .args .quantity) (c .args .weights .now) (c .fair-total-total .result) (c .part-rest .result) (c .part-rest .last .out) (s .0) (s .1) (c .part-rest .ensures .rems) (c .part-rest .ensures .rest) in
-    record { most = f .0; high = f .1 }
+pub find-cut-cut-requires : need.find-cut-cut-requires
+find-cut-cut-requires c κs =
+    let s = shared _ _ (c .fair-total-total .result) (c .fair-total-total .ensures) (c .if-total-eq0 .left) in
+    let f = cuttable _ _ (c .fair-total-total .result) (c .part-rest .result) (c .part-rest .last .out) (s .0) (s .1) (c .part-rest .ensures .rems) (c .part-rest .ensures .rest) in
+    record { places = f .places; limit = f .limit; most = f .most; high = f .high }
