@@ -31,7 +31,7 @@ const LEAP: YearTable = YearTable {
 
 /// Every fourth year from 2000 to 2099 is a leap year, 2000 among them.
 fn table(year: u32) -> &'static YearTable {
-    if year % 4 == 0 {
+    if year.is_multiple_of(4) {
         &LEAP
     } else {
         &COMMON

@@ -6,12 +6,15 @@
 
 pub mod calendar;
 pub mod charges;
+pub mod journal;
 pub mod ledger;
+pub mod player;
 pub mod point;
 pub mod profiles;
 pub mod refusal;
+pub mod report;
 pub mod shares;
-pub mod sheets;
+pub mod text;
 
 pub use refusal::{Refusal, Refused};
 

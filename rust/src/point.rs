@@ -122,8 +122,7 @@ impl Point {
 
     /// Ends the slip and begins a new period at the kept reading.
     pub fn book(&mut self) {
-        if self.period_sum > 0 {
-            let factor = self.consumption() * ONE / self.period_sum;
+        if let Some(factor) = (self.consumption() * ONE).checked_div(self.period_sum) {
             self.scale_factor = factor.min(LARGEST_SCALE_FACTOR as u64) as u32;
         }
         self.open_sum = 0;

@@ -1,5 +1,7 @@
 //! Profiles: how much a point of a segment uses at a temperature, in a season.
 
+use std::rc::Rc;
+
 use crate::{Refusal, ONE};
 
 pub const COLDEST: i32 = -400;
@@ -38,7 +40,7 @@ pub trait Profile {
     fn tell(&self, segment: u32, temperature: i32, season: u32) -> Factors;
 }
 
-impl<P: Profile + ?Sized> Profile for Box<P> {
+impl<P: Profile + ?Sized> Profile for Rc<P> {
     fn segments(&self) -> u32 {
         (**self).segments()
     }

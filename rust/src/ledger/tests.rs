@@ -1,6 +1,9 @@
 //! The calls one by one: what an accepted one does, each ground of a refused one, which ground is
 //! met first, and that a refused call leaves ledger, points and work sheets as they were.
 
+// A day or slip made up for a test may be let go.
+#![allow(unused_must_use)]
+
 use super::*;
 use crate::point::{LARGEST_OPEN_SUM, LARGEST_PERIOD_SUM};
 use crate::profiles::{Even, SeasonLayer, Table, SEASON_SHEET};
