@@ -5,7 +5,7 @@
 
 use crate::calendar::LAST_DAY;
 use crate::point::{Particulars, Point};
-use crate::profiles::{is_weather, Profile};
+use crate::profiles::{is_weather, Factors, Profile, MOST_SEGMENTS};
 use crate::shares::ShareRule;
 use crate::{Refusal, Refused, MOST_LITRES};
 
@@ -308,19 +308,15 @@ impl Ledger {
         let short = consumptions.len() < count || shares.len() < count;
         refuse(short, Refusal::WorkSheetLength)?;
         let points = &mut points[..count];
-        let ours = |point: &Point| {
-            point.is_in_range() && self.has_trader(point.trader) && point.has_room_for_a_day()
-        };
-        refuse(!points.iter().all(ours), Refusal::ForeignSheet)?;
-        let (running, figures) = self.measured(day.number)?;
-        refuse(points.iter().any(Point::has_open_slip), Refusal::SlipOpenAtShareOut)?;
-        let unserved = |point: &Point| point.segment >= profile.segments();
-        refuse(points.iter().any(unserved), Refusal::SegmentNotServed)?;
+        let (running, figures) = self.allow_points(day, profile, points)?;
 
         let consumptions = &mut consumptions[..count];
-        let tell = |segment| profile.tell(segment, running.temperature, running.season);
+        // What the profile tells is the same for all points of a segment.
+        let told: [Factors; MOST_SEGMENTS as usize] = std::array::from_fn(|segment| {
+            profile.tell(segment as u32, running.temperature, running.season)
+        });
         for (consumption, point) in consumptions.iter_mut().zip(points.iter()) {
-            *consumption = point.profile_consumption(tell(point.segment).day_factor);
+            *consumption = point.profile_consumption(told[point.segment as usize].day_factor);
         }
         let weight_sum = consumptions.iter().sum();
         refuse(figures.to_share > 0 && weight_sum == 0, Refusal::NoWeight)?;
@@ -329,11 +325,29 @@ impl Ledger {
         rule.share(figures.to_share, consumptions, shares);
         for (point, &share) in points.iter_mut().zip(shares.iter()) {
             point.open_sum += share;
-            point.period_sum += tell(point.segment).multiplier;
+            point.period_sum += told[point.segment as usize].multiplier;
             self.traders[point.trader as usize].account += share as i64;
         }
         self.close(figures.loss);
         Ok(SharedOut { quantity: figures.to_share, weight_sum, loss: figures.loss })
+    }
+
+    /// The measured day and its figures, where the rows handed in can be shared out to.
+    fn allow_points(
+        &self,
+        day: &MeasuredDay,
+        profile: &(impl Profile + ?Sized),
+        points: &[Point],
+    ) -> Result<(Day, Figures), Refusal> {
+        let ours = |point: &Point| {
+            point.is_in_range() && self.has_trader(point.trader) && point.has_room_for_a_day()
+        };
+        refuse(!points.iter().all(ours), Refusal::ForeignSheet)?;
+        let measured = self.measured(day.number)?;
+        refuse(points.iter().any(Point::has_open_slip), Refusal::SlipOpenAtShareOut)?;
+        let unserved = |point: &Point| point.segment >= profile.segments();
+        refuse(points.iter().any(unserved), Refusal::SegmentNotServed)?;
+        Ok(measured)
     }
 
     /// Books the loss and the metered litres of a day shared out.

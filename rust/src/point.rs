@@ -42,9 +42,12 @@ pub struct Particulars {
     pub scale_factor: u32,
 }
 
+/// Ten to the power of 0 to 8: at how many units a dial of that many digits rolls over.
+const POWERS: [u32; 9] = [1, 10, 100, 1_000, 10_000, 100_000, 1_000_000, 10_000_000, 100_000_000];
+
 /// Whether a dial of that many digits can show the reading.
 fn dial_shows(digits: u32, reading: u32) -> bool {
-    reading < 10_u32.pow(digits)
+    reading < POWERS[digits as usize]
 }
 
 impl Particulars {
@@ -111,8 +114,9 @@ impl Point {
 
     /// Litres from the reading last booked to the kept one; the dial may have rolled over once.
     pub fn consumption(&self) -> u64 {
-        let rolled = if self.kept_reading < self.reading { 10_u64.pow(self.digits) } else { 0 };
-        let units = self.kept_reading as u64 + rolled - self.reading as u64;
+        let rolled =
+            if self.kept_reading < self.reading { POWERS[self.digits as usize] } else { 0 };
+        let units = self.kept_reading as u64 + rolled as u64 - self.reading as u64;
         units * self.litres_per_unit as u64
     }
 
