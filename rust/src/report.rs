@@ -1,5 +1,7 @@
 //! Printed lines: fields with a separator between them, as text or as CSV.
 
+use std::io::Write;
+
 use crate::Refusal;
 
 /// One field of a printed line.
@@ -56,13 +58,14 @@ impl Report {
     }
 
     fn field(&mut self, field: Field) {
-        let shown = match field {
-            Field::Name(name) => return self.bytes.extend_from_slice(name),
-            Field::Word(word) => word.to_string(),
-            Field::Number(number) => number.to_string(),
-            Field::Refused(why) if self.csv => format!("refused,{},\"{why}\"", why.number()),
-            Field::Refused(why) => format!("refused {}: {why}", why.number()),
+        let bytes = &mut self.bytes;
+        let written = match field {
+            Field::Name(name) => bytes.write_all(name),
+            Field::Word(word) => bytes.write_all(word.as_bytes()),
+            Field::Number(number) => write!(bytes, "{number}"),
+            Field::Refused(why) if self.csv => write!(bytes, "refused,{},\"{why}\"", why.number()),
+            Field::Refused(why) => write!(bytes, "refused {}: {why}", why.number()),
         };
-        self.bytes.extend_from_slice(shown.as_bytes());
+        written.expect("a list of bytes takes every byte");
     }
 }

@@ -13,6 +13,7 @@
 //!     RUSTFLAGS="-L native=target/staticlib -l static=NAME" cargo run --release --features rattle --bin bench
 
 use std::hint::black_box;
+use std::process::ExitCode;
 use std::time::Instant;
 
 use keldrava_second::ledger::Ledger;
@@ -27,17 +28,18 @@ const ROUNDS: usize = 101;
 
 /// What is timed: so many days on a new ledger.
 struct Entry {
-    name: &'static str,
+    rule: &'static str,
+    program: &'static str,
     run: fn(u32) -> u64,
 }
 
 const ENTRIES: &[Entry] = &[
-    Entry { name: "running, plain Rust", run: running },
+    Entry { rule: "running", program: "plain Rust", run: running },
     #[cfg(feature = "rattle")]
-    Entry { name: "running, Rattle", run: rattle::running },
-    Entry { name: "largest, plain Rust", run: largest },
+    Entry { rule: "running", program: "Rattle", run: rattle::running },
+    Entry { rule: "largest", program: "plain Rust", run: largest },
     #[cfg(feature = "rattle")]
-    Entry { name: "largest, Rattle", run: rattle::largest },
+    Entry { rule: "largest", program: "Rattle", run: rattle::largest },
 ];
 
 #[cfg(feature = "rattle")]
@@ -54,11 +56,20 @@ mod rattle {
     }
 }
 
-fn main() {
+fn main() -> ExitCode {
+    let mut agree = true;
     for entry in ENTRIES {
-        let account = (entry.run)(DAYS);
-        println!("{}: {} ns a day, account {account}", entry.name, nanoseconds_a_day(entry));
+        let Entry { rule, program, run } = entry;
+        let account = run(DAYS);
+        let first = ENTRIES.iter().find(|other| other.rule == *rule);
+        agree &= first.is_none_or(|first| (first.run)(DAYS) == account);
+        println!("{rule}, {program}: {} ns a day, account {account}", nanoseconds_a_day(entry));
     }
+    if agree {
+        return ExitCode::SUCCESS;
+    }
+    eprintln!("the accounts differ");
+    ExitCode::FAILURE
 }
 
 /// The median over many rounds of the days alone, without making the ledger.
