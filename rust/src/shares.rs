@@ -51,15 +51,16 @@ impl ShareRule for LargestRemainder {
         let Some(sum) = sum_to_share_by(quantity, weights, shares) else {
             return shares.fill(0);
         };
-        let mut left = quantity;
-        let mut by_remainder = Vec::with_capacity(weights.len());
+        let mut left = quantity as usize;
+        // On the stack: a list made anew each day can cost more than the sharing.
+        let mut places = [(0, 0); MOST_WEIGHTS];
+        let by_remainder = &mut places[..weights.len()];
         for (place, (share, weight)) in shares.iter_mut().zip(weights).enumerate() {
             *share = quantity * weight / sum;
-            left -= *share;
+            left -= *share as usize;
             // Smallest first below: the largest remainder, then the lowest place.
-            by_remainder.push((sum - quantity * weight % sum, place));
+            by_remainder[place] = (sum - quantity * weight % sum, place);
         }
-        let left = left as usize;
         if left > 0 {
             by_remainder.select_nth_unstable(left - 1);
         }
