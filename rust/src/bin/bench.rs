@@ -10,7 +10,8 @@
 //! With the feature `rattle` the proved library is timed too. It is a static library that exports
 //! `uint64_t keldrava_bench_running(uint32_t days)` and `keldrava_bench_largest`:
 //!
-//!     RUSTFLAGS="-L native=target/staticlib -l static=NAME" cargo run --release --features rattle --bin bench
+//!     RUSTFLAGS="-L native=$PWD/target/staticlib -l static=NAME" \
+//!         cargo run --release --features rattle --manifest-path rust/Cargo.toml --bin bench
 
 use std::hint::black_box;
 use std::process::ExitCode;

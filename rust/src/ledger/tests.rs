@@ -518,6 +518,24 @@ fn a_day_is_known_by_number_and_phase() {
 }
 
 #[test]
+fn a_day_of_an_earlier_opening_is_over() {
+    let mut station = Station::new();
+    let day = station.measure(10);
+    station.ledger.abandon_measured(day).unwrap();
+    let second = station.open();
+    let first = foreign_open_day(1);
+    station.refuses(Refusal::NotRunning, |s| s.ledger.enter(&first, 0, 1));
+    let first =
+        station.hands_back(Refusal::NotRunning, first, |s, day| s.ledger.take_inflow(day, 10, 0));
+    station.hands_back(Refusal::NotRunning, first, |s, day| s.ledger.abandon_open(day));
+    let second = station.ledger.take_inflow(second, 10, 0).unwrap();
+    let first = MeasuredDay { number: 1 };
+    let first = station.hands_back(Refusal::NotRunning, first, |s, day| s.share(day, &flat()));
+    station.hands_back(Refusal::NotRunning, first, |s, day| s.ledger.abandon_measured(day));
+    station.share(second, &flat()).unwrap();
+}
+
+#[test]
 fn abandoning_ends_a_day_of_either_phase() {
     let mut station = Station::new();
     let before = station.clone();
