@@ -17,11 +17,9 @@ fn part_of(litres: u64, day: u64, days: u64) -> u64
     litres * day / days - litres * (day - 1) / days
 }
 
-// The litres of one day of a flat-rate customer, given the quantity of the whole month that the day lies in.
-pub fn flat_rate_day(litres: u64, date: Date) -> Result<u64, Refusal>
-    ensures value { λ r. ⌜ r ≡ flatRate litres date ⌝ }
-    ensures whole { λ _. ⌜ Whole litres date ⌝ }
-    ensures level { λ _. ⌜ Level litres date ⌝ }
+// The litres of one day, by the rule.
+fn by_rule(litres: u64, date: Date) -> Result<u64, Refusal>
+    ensures { λ r. ⌜ r ≡ flatRate litres date ⌝ }
 {
     if litres > MOST_LITRES {
         return Err(Refusal::Litres);
@@ -30,4 +28,14 @@ pub fn flat_rate_day(litres: u64, date: Date) -> Result<u64, Refusal>
         return Err(Refusal::NoSuchDay);
     }
     Ok(part_of(litres, date.day as u64, date.days_of_month() as u64))
+}
+
+// The litres of one day of a flat-rate customer, given the quantity of the month that the day lies in. The month's days sum
+// to that quantity, and no two of them differ by more than one litre.
+pub fn flat_rate_day(litres: u64, date: Date) -> Result<u64, Refusal>
+    ensures value { λ r. ⌜ r ≡ flatRate litres date ⌝ }
+    ensures whole { λ _. ⌜ Whole litres date ⌝ }
+    ensures level { λ _. ⌜ Level litres date ⌝ }
+{
+    by_rule(litres, date)
 }
