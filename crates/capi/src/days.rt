@@ -1,9 +1,6 @@
 // The calendar and the flat-rate day.
 ghost use mathlib.Core.Path.{_≡_};
-ghost use mathlib.Core.Bool.{Bool, true, false};
-ghost use Prim.Native.Nat.{ℕ, _≤_, _<_};
-ghost use Rattle.refusals.specs.declared.Refusal.the-variants.{NoSuchDay};
-ghost use Rattle.calendar.specs.Days.{isDay, dayOf};
+ghost use Rattle.calendar.specs.Days.{dayOf};
 ghost use Rattle.calendar.specs.FlatRate.{flatRate};
 ghost use Rattle.capi.specs.Told.{told};
 ghost use Rattle.capi.specs.Calendar.{written, DayOrNone, DateTold};
