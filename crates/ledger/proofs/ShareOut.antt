@@ -11,7 +11,7 @@ use Rattle.std.specs.Iters.{counting}
 use Rattle.std.specs.shelf.Lists.{sum}
 use Rattle.std.proofs.shelf.Counted.{getD-map-counting}
 use Rattle.std.proofs.shelf.Lists.{ext-getD, length-map, length-take, length-take-le, length-replicate, getD-map, getD-take, getD-replicate, getD-append-left, take-at, take-append-le}
-use Rattle.std.proofs.shelf.Tests.{and-parts, not-false, leb-true, ltb-false, or-parts, cond-true, cond-false}
+use Rattle.std.proofs.shelf.Tests.{false≢true, cond-true, cond-false}
 use Rattle.std.proofs.shelf.Ways.{tells}
 use Rattle.std.specs.declared.option.Option.{Option}
 use Rattle.std.specs.declared.option.Option.the-variants.{Some, None}
@@ -29,14 +29,15 @@ use Rattle.ledger.specs.declared.day.Phase.the-variants.{Idle, Open, Measured}
 use Rattle.ledger.specs.declared.day.Refused.{Refused}
 use Rattle.ledger.specs.declared.day.SharedOut.{SharedOut}
 use Rattle.ledger.specs.declared.point.Point.{Point}
-use Rattle.ledger.specs.Accounts.{Sound, creditedTo, credited, settled, withTraders, dayHolds}
-use Rattle.ledger.specs.Days.{skyIn}
+use Rattle.ledger.specs.Accounts.{Sound, creditedTo, credited, settled, withTraders, dayHolds, pending}
+use Rattle.ledger.specs.Days.{skyIn, isMeasured}
 use Rattle.ledger.specs.Grounds.{handedBack, unless}
 use Rattle.ledger.specs.History.{LawfulRule}
-use Rattle.ledger.specs.Limits.{maxLitres, maxPoints}
+use Rattle.ledger.specs.Limits.{maxLitres}
 use Rattle.ledger.specs.Rows.{rowAt, noRow, every, mayShare, factorsAt, profileUse, profileUses, sharedRow, sharedRows}
-use Rattle.ledger.specs.Sharing.{Tells, Rule, toldOn, dayQuantity, dayLoss, dayUses, dayShares, shareGrounds, noWeight, shareFault, shareTold, shareAnswer, sharedBook, shareBook, shareSheet, shareUses, shareShares, oneMoreShared}
-use Rattle.ledger.proofs.Keep.{shares-within, share-sound}
+use Rattle.ledger.specs.Sharing.{Tells, Rule, Weighable, toldOn, dayQuantity, dayLoss, dayUses, dayShares, shareGrounds, noWeight, shareFault, shareTold, shareAnswer, sharedBook, shareBook, shareSheet, shareUses, shareShares, oneMoreShared}
+use Rattle.ledger.proofs.Accepted.{sharable}
+use Rattle.ledger.proofs.Keep.{shares-within}
 use Rattle.ledger.proofs.Ranges.{shareable}
 use Rattle.ledger.proofs.Rows.{every-at}
 use Rattle.ledger.proofs.Traders.{sum-cons}
@@ -93,151 +94,161 @@ quantity-small Idle m next e = omega arith
 quantity-small (Open n w) m next e = omega arith
 quantity-small (Measured n w g x q) m next e = grind (arith, tells)
 
-module _ (l : Book) (day : MeasuredDay) (s : List Point) (tells-of : Tells) (segments : ℕ) (us ss : List ℕ) where
-  -- what is known once the first grounds are passed
-  pub record Passed : Type 0 where
-    pub room : l .counts .points ≤ length s
-    pub short : length s ≤ maxPoints
-    pub uses : l .counts .points ≤ length us
-    pub shares : l .counts .points ≤ length ss
-    pub rows : every (mayShare (l .counts .traders)) s (l .counts .points) ≡ true
+-- a measured day is running
+measured-pending : (ph : Phase) (k : ℕ) → isMeasured ph k ≡ true → pending ph ≡ 1
+measured-pending Idle k e = absurd (false≢true e)
+measured-pending (Open n w) k e = absurd (false≢true e)
+measured-pending (Measured n w g x q) k e = refl
 
-  pub passed : shareGrounds l day s segments (length us) (length ss) ≡ None → Passed
-  passed e =
-      record {
-        room = grind (arith, tells);
-        short = grind (arith, tells);
-        uses = grind (arith, tells);
-        shares = grind (arith, tells);
-        rows = grind (arith, tells);
-      }
+-- what is known once the first grounds are passed
+pub passed : (l : Book) (day : MeasuredDay) (s : List Point) (segments uses shares : ℕ) → shareGrounds l day s segments uses shares ≡ None → Weighable l s uses
+passed l day s segments uses shares e =
+    record { room = grind (arith, tells); short = grind (arith, tells); uses = grind (arith, tells); rows = grind (arith, tells) }
+
+pub passed-room : (l : Book) (day : MeasuredDay) (s : List Point) (segments uses shares : ℕ) → shareGrounds l day s segments uses shares ≡ None → l .counts .points ≤ shares
+passed-room l day s segments uses shares e = grind (arith, tells)
+
+pub passed-running : (l : Book) (day : MeasuredDay) (s : List Point) (segments uses shares : ℕ) → shareGrounds l day s segments uses shares ≡ None → pending (l .phase) ≡ 1
+passed-running l day s segments uses shares e = measured-pending (l .phase) (day .number) (sharable l day s segments uses shares e .running)
+
+-- Weighing.
+
+pub segment-small : (l : Book) (s : List Point) (places : ℕ) → Weighable l s places → (k : ℕ) → k < l .counts .points → rowAt s k .segment < 8
+segment-small l s places ok k h = shareable (l .counts .traders) (rowAt s k) (every-at (mayShare (l .counts .traders)) s (l .counts .points) k (ok .rows) h) .segment
+
+module _ (l : Book) (s : List Point) (tells-of : Tells) (places : ℕ) (ok : Weighable l s places) (told : List Factors) (asked : told ≡ map (toldOn (l .phase) tells-of) (counting 0 8)) where
+  told-same : (k : ℕ) → k < l .counts .points → factorsAt told (rowAt s k .segment) ≡ toldOn (l .phase) tells-of (rowAt s k .segment)
+  told-same k h =
+      let j = rowAt s k .segment in
+      ap (λ u. factorsAt u j) asked ∙ getD-map-counting (toldOn (l .phase) tells-of) 0 8 j j (both 0 0) (segment-small l s places ok k h) (omega arith)
+
+  pub weighed-is : profileUses (factorsAt told) (take (l .counts .points) s) ≡ dayUses l s tells-of
+  weighed-is = uses-same (factorsAt told) (toldOn (l .phase) tells-of) s (l .counts .points) (ok .room) told-same
+
+  pub booked-is : (shares : List ℕ) → sharedRows (factorsAt told) s shares (l .counts .points) ≡ sharedRows (toldOn (l .phase) tells-of) s shares (l .counts .points)
+  booked-is shares = sharedRows-same (factorsAt told) (toldOn (l .phase) tells-of) s shares (l .counts .points) told-same
+
+length-uses : (l : Book) (s : List Point) (tells-of : Tells) → l .counts .points ≤ length s → length (dayUses l s tells-of) ≡ l .counts .points
+length-uses l s tells-of h = length-map (take (l .counts .points) s) _ ∙ length-take-le (l .counts .points) s h
+
+-- Closing the day, by a rule and the weights in the first places of a work sheet.
+
+module _ (l : Book) (s : List Point) (rule : Rule) (law : LawfulRule rule) (so : Sound l) (us ss ss′ : List ℕ) (ok : Weighable l s (length us))
+    (quantity : ℕ) (q : quantity ≡ dayQuantity (l .phase))
+    (d : ss′ ≡ rule quantity (take (l .counts .points) us) ++ drop (l .counts .points) ss) where
+  shares-of : List ℕ
+  shares-of = rule (dayQuantity (l .phase)) (take (l .counts .points) us)
+
+  length-shares : length shares-of ≡ l .counts .points
+  unfolding shares-of
+  length-shares = law .places _ (take (l .counts .points) us) ∙ length-take-le (l .counts .points) us (ok .uses)
+
+  pub given-is : ss′ ≡ rule (dayQuantity (l .phase)) (take (l .counts .points) us) ++ drop (l .counts .points) ss
+  given-is = d ∙ ap (λ (x : ℕ). rule x (take (l .counts .points) us) ++ drop (l .counts .points) ss) q
 
   -- the shares come to no more than the quantity
-  pub shares-small : (rule : Rule) → LawfulRule rule → Sound l → sum (dayShares l s tells-of rule) ≤ maxLitres
-  shares-small rule law so =
-      let a = shares-within law (dayQuantity (l .phase)) (dayUses l s tells-of) in
+  pub front-small : sum (take (l .counts .points) ss′) ≤ maxLitres
+  unfolding shares-of
+  front-small =
+      let n = l .counts .points in
+      let f : take n ss′ ≡ shares-of = ap (take n) given-is ∙ take-at shares-of (drop n ss) n length-shares in
+      let e = ap sum f in
+      let a = shares-within law (dayQuantity (l .phase)) (take n us) in
       let b = quantity-small (l .phase) _ _ (so .day) in
       omega arith
 
-  module _ (told : List Factors) (asked : told ≡ map (λ (k : ℕ). toldOn (l .phase) tells-of k) (counting 0 8)) (ok : Passed) where
-    told-same : (k : ℕ) → k < l .counts .points → factorsAt told (rowAt s k .segment) ≡ toldOn (l .phase) tells-of (rowAt s k .segment)
-    told-same k h =
-        let j = rowAt s k .segment in
-        let r = shareable (l .counts .traders) (rowAt s k) (every-at (mayShare (l .counts .traders)) s (l .counts .points) k (ok .rows) h) .segment in
-        ap (λ u. factorsAt u j) asked ∙ getD-map-counting (toldOn (l .phase) tells-of) 0 8 j j (both 0 0) r (omega arith)
+  pub record Closed (told : ℕ → Factors) (m : Book) (s′ : List Point) : Type 0 where
+    pub state : m ≡ sharedBook l s (rule (dayQuantity (l .phase)) (take (l .counts .points) us))
+    pub rows : s′ ≡ sharedRows told s (rule (dayQuantity (l .phase)) (take (l .counts .points) us)) (l .counts .points)
 
-    pub segment-small : (k : ℕ) → k < l .counts .points → rowAt s k .segment < 8
-    segment-small k h = shareable (l .counts .traders) (rowAt s k) (every-at (mayShare (l .counts .traders)) s (l .counts .points) k (ok .rows) h) .segment
+  abbrev with-day-closed : Book → ℕ → Book
+  with-day-closed m x =
+      record {
+        traders = m .traders;
+        counts = oneMoreShared (m .counts);
+        loss = m .loss + x;
+        correction = m .correction;
+        «next_day» = m .«next_day» + 1;
+        phase = Idle;
+      }
 
-    pub weighed-is : profileUses (factorsAt told) (take (l .counts .points) s) ≡ dayUses l s tells-of
-    weighed-is = uses-same (factorsAt told) (toldOn (l .phase) tells-of) s (l .counts .points) (ok .room) told-same
+  pub closed : (told : ℕ → Factors) (loss : ℕ) (l₁ l₂ : Book) (s₁ : List Point) → loss ≡ dayLoss (l .phase) → l₁ ≡ withTraders l (creditedTo (l .traders) s ss′ (l .counts .points)) → s₁ ≡ sharedRows told s ss′ (l .counts .points) → l₂ ≡ withTraders l₁ (map settled (l₁ .traders)) → Closed told (with-day-closed l₂ loss) s₁
+  unfolding shares-of
+  closed told loss l₁ l₂ s₁ x e₁ r₁ e₂ =
+      let n = l .counts .points in
+      let long : n ≤ length shares-of = let p = length-shares in omega arith in
+      let traders : creditedTo (l .traders) s ss′ n ≡ creditedTo (l .traders) s shares-of n = ap (λ u. creditedTo (l .traders) s u n) given-is ∙ creditedTo-front (l .traders) s shares-of (drop n ss) n long in
+      record {
+        state =
+            ap (λ (b : Book). with-day-closed b loss) (e₂ ∙ ap (λ (b : Book). withTraders b (map settled (b .traders))) e₁)
+            ∙ ap (λ (y : ℕ). with-day-closed (withTraders l (map settled (creditedTo (l .traders) s ss′ n))) y) x
+            ∙ ap (λ ts. with-day-closed (withTraders l (map settled ts)) (dayLoss (l .phase))) traders;
+        rows = r₁ ∙ ap (λ u. sharedRows told s u n) given-is ∙ sharedRows-front told s shares-of (drop n ss) n long;
+      }
 
-    length-uses : length (dayUses l s tells-of) ≡ l .counts .points
-    length-uses = length-map (take (l .counts .points) s) _ ∙ length-take-le (l .counts .points) s (ok .room)
+-- The call as a whole, once its first grounds are passed.
 
-    -- the quantity was above nought and nobody had any weight
-    pub record Weightless (r : Result SharedOut (Refused MeasuredDay)) (us′ : List ℕ) (rule : Rule) : Type 0 where
-      pub answer : r ≡ shareAnswer l day s tells-of segments (length us) (length ss)
-      pub state : l ≡ shareBook l day s tells-of rule segments (length us) (length ss)
-      pub rows : s ≡ shareSheet l day s tells-of rule segments (length us) (length ss)
-      pub weighed : us′ ≡ shareUses l day s tells-of segments us (length ss)
-      pub given : ss ≡ shareShares l day s tells-of rule segments (length us) ss
+module _ (l : Book) (day : MeasuredDay) (s : List Point) (tells-of : Tells) (segments : ℕ) (us ss us′ : List ℕ) (rule : Rule) (total quantity : ℕ)
+    (none : shareGrounds l day s segments (length us) (length ss) ≡ None)
+    (e : us′ ≡ dayUses l s tells-of ++ drop (l .counts .points) us) (t : total ≡ sum (dayUses l s tells-of)) (q : quantity ≡ dayQuantity (l .phase)) where
+  pub record Answered (r : Result SharedOut (Refused MeasuredDay)) (m : Book) (s′ : List Point) (ss′ : List ℕ) : Type 0 where
+    pub answer : r ≡ shareAnswer l day s tells-of segments (length us) (length ss)
+    pub state : m ≡ shareBook l day s tells-of rule segments (length us) (length ss)
+    pub rows : s′ ≡ shareSheet l day s tells-of rule segments (length us) (length ss)
+    pub weighed : us′ ≡ shareUses l day s tells-of segments us (length ss)
+    pub given : ss′ ≡ shareShares l day s tells-of rule segments (length us) ss
 
-    pub weightless : (rule : Rule) (us′ : List ℕ) (total : ℕ) → shareGrounds l day s segments (length us) (length ss) ≡ None → us′ ≡ profileUses (factorsAt told) (take (l .counts .points) s) ++ drop (l .counts .points) us → total ≡ sum (profileUses (factorsAt told) (take (l .counts .points) s)) → 0 < dayQuantity (l .phase) → total ≡ 0 → Weightless (Err (record { why = NoWeight; token = day })) us′ rule
-    weightless rule us′ total none e t q z =
-        let zero-sum : sum (dayUses l s tells-of) ≡ 0 = sym (ap sum weighed-is) ∙ sym t ∙ z in
-        let nw : noWeight l s tells-of ≡ true = grind (arith, tells) in
-        let fault : shareFault l day s tells-of segments (length us) (length ss) ≡ Some NoWeight =
-        ap (λ (o : Option Refusal). unless o (cond (noWeight l s tells-of) (Some NoWeight) None) o) none ∙ cond-true _ _ _ nw in
-        let noughts : dayUses l s tells-of ≡ replicate (l .counts .points) 0 = none-left (dayUses l s tells-of) zero-sum ∙ ap (λ (n : ℕ). replicate n 0) length-uses in
-        let rest = drop (l .counts .points) us in
-        record {
-          answer = sym (ap (λ (o : Option Refusal). handedBack o day (shareTold l s tells-of)) fault);
-          state = sym (ap (λ (o : Option Refusal). unless o (sharedBook l s (dayShares l s tells-of rule)) l) fault);
-          rows = sym (ap (λ (o : Option Refusal). unless o (sharedRows (toldOn (l .phase) tells-of) s (dayShares l s tells-of rule) (l .counts .points)) s) fault);
-          weighed = e ∙ ap (λ u. u ++ rest) (weighed-is ∙ noughts)
-              ∙ sym (ap (λ (o : Option Refusal). unless o (cond (noWeight l s tells-of) (replicate (l .counts .points) 0) (dayUses l s tells-of) ++ rest) us) none ∙ ap (λ u. u ++ rest) (cond-true _ _ _ nw));
-          given = sym (ap (λ (o : Option Refusal). unless o (dayShares l s tells-of rule ++ drop (l .counts .points) ss) ss) fault);
-        }
+  -- the quantity was above nought and nobody had any weight
+  pub weightless : 0 < quantity → total ≡ 0 → Answered (Err (record { why = NoWeight; token = day })) l s ss
+  weightless some z =
+      let n = l .counts .points in
+      let room = passed l day s segments (length us) (length ss) none .room in
+      let zero-sum : sum (dayUses l s tells-of) ≡ 0 = sym t ∙ z in
+      let nw : noWeight l s tells-of ≡ true = grind (arith, tells) in
+      let fault : shareFault l day s tells-of segments (length us) (length ss) ≡ Some NoWeight =
+      ap (λ (o : Option Refusal). unless o (cond (noWeight l s tells-of) (Some NoWeight) None) o) none ∙ cond-true _ _ _ nw in
+      let noughts : dayUses l s tells-of ≡ replicate n 0 = none-left (dayUses l s tells-of) zero-sum ∙ ap (λ (k : ℕ). replicate k 0) (length-uses l s tells-of room) in
+      let rest = drop n us in
+      record {
+        answer = sym (ap (λ (o : Option Refusal). handedBack o day (shareTold l s tells-of)) fault);
+        state = sym (ap (λ (o : Option Refusal). unless o (sharedBook l s (dayShares l s tells-of rule)) l) fault);
+        rows = sym (ap (λ (o : Option Refusal). unless o (sharedRows (toldOn (l .phase) tells-of) s (dayShares l s tells-of rule) n) s) fault);
+        weighed =
+            e ∙ ap (λ u. u ++ rest) noughts
+            ∙ sym (ap (λ (o : Option Refusal). unless o (cond (noWeight l s tells-of) (replicate n 0) (dayUses l s tells-of) ++ rest) us) none ∙ ap (λ u. u ++ rest) (cond-true _ _ _ nw));
+        given = sym (ap (λ (o : Option Refusal). unless o (dayShares l s tells-of rule ++ drop n ss) ss) fault);
+      }
 
-    -- the day was shared out
-    abbrev closed : Book → ℕ → Book
-    closed m x =
-        record {
-          traders = m .traders;
-          counts = oneMoreShared (m .counts);
-          loss = m .loss + x;
-          correction = m .correction;
-          «next_day» = m .«next_day» + 1;
-          phase = Idle;
-        }
+  -- what the rule is handed are the day's consumptions
+  front-is : take (l .counts .points) us′ ≡ dayUses l s tells-of
+  front-is = ap (take (l .counts .points)) e ∙ take-at (dayUses l s tells-of) (drop (l .counts .points) us) (l .counts .points) (length-uses l s tells-of (passed l day s segments (length us) (length ss) none .room))
 
-    pub record Done (r : Result SharedOut (Refused MeasuredDay)) (m : Book) (s′ : List Point) (us′ ss′ : List ℕ) (rule : Rule) : Type 0 where
-      pub answer : r ≡ shareAnswer l day s tells-of segments (length us) (length ss)
-      pub state : m ≡ shareBook l day s tells-of rule segments (length us) (length ss)
-      pub rows : s′ ≡ shareSheet l day s tells-of rule segments (length us) (length ss)
-      pub weighed : us′ ≡ shareUses l day s tells-of segments us (length ss)
-      pub given : ss′ ≡ shareShares l day s tells-of rule segments (length us) ss
-      pub sound : Sound m
-
-    -- what the rule wrote
-    pub divided-is : (rule : Rule) (us′ ss′ : List ℕ) (quantity : ℕ) → us′ ≡ profileUses (factorsAt told) (take (l .counts .points) s) ++ drop (l .counts .points) us → quantity ≡ dayQuantity (l .phase) → ss′ ≡ rule quantity (take (l .counts .points) us′) ++ drop (l .counts .points) ss → ss′ ≡ dayShares l s tells-of rule ++ drop (l .counts .points) ss
-    divided-is rule us′ ss′ quantity e q d =
-        let n = l .counts .points in
-        let front : take n us′ ≡ dayUses l s tells-of =
-        ap (take n) (e ∙ ap (λ u. u ++ drop n us) weighed-is) ∙ take-at (dayUses l s tells-of) (drop n us) n length-uses in
-        d ∙ ap (λ u. rule quantity u ++ drop n ss) front ∙ ap (λ (x : ℕ). rule x (dayUses l s tells-of) ++ drop n ss) q
-
-    length-shares : (rule : Rule) → LawfulRule rule → length (dayShares l s tells-of rule) ≡ l .counts .points
-    length-shares rule law = law .places (dayQuantity (l .phase)) (dayUses l s tells-of) ∙ length-uses
-
-    pub front-small : (rule : Rule) → LawfulRule rule → Sound l → (ss′ : List ℕ) → ss′ ≡ dayShares l s tells-of rule ++ drop (l .counts .points) ss → sum (take (l .counts .points) ss′) ≤ maxLitres
-    front-small rule law so ss′ e =
-        let n = l .counts .points in
-        let f : take n ss′ ≡ dayShares l s tells-of rule = ap (take n) e ∙ take-at (dayShares l s tells-of rule) (drop n ss) n (length-shares rule law) in
-        let a = ap sum f in
-        let b = shares-small rule law so in
-        omega arith
-
-    pub done : (rule : Rule) → LawfulRule rule → Sound l → (us′ ss′ : List ℕ) (total quantity loss : ℕ) (l₁ l₂ : Book) (s₁ : List Point) →
-        shareGrounds l day s segments (length us) (length ss) ≡ None →
-        us′ ≡ profileUses (factorsAt told) (take (l .counts .points) s) ++ drop (l .counts .points) us →
-        total ≡ sum (profileUses (factorsAt told) (take (l .counts .points) s)) →
-        quantity ≡ dayQuantity (l .phase) → loss ≡ dayLoss (l .phase) →
-        (ltb 0 quantity && eqb total 0) ≡ false →
-        ss′ ≡ rule quantity (take (l .counts .points) us′) ++ drop (l .counts .points) ss →
-        l₁ ≡ withTraders l (creditedTo (l .traders) s ss′ (l .counts .points)) →
-        s₁ ≡ sharedRows (factorsAt told) s ss′ (l .counts .points) →
-        l₂ ≡ withTraders l₁ (map settled (l₁ .traders)) →
-        Done (Ok (record { quantity = quantity; total = total; loss = loss })) (closed l₂ loss) s₁ us′ ss′ rule
-    done rule law so us′ ss′ total quantity loss l₁ l₂ s₁ none e t q x some d e₁ r₁ e₂ =
-        let n = l .counts .points in
-        let shares = dayShares l s tells-of rule in
-        let total-is : total ≡ sum (dayUses l s tells-of) = t ∙ ap sum weighed-is in
-        let nw : noWeight l s tells-of ≡ false = ap (λ (y : ℕ). ltb 0 y && eqb (sum (dayUses l s tells-of)) 0) (sym q) ∙ ap (λ (y : ℕ). ltb 0 quantity && eqb y 0) (sym total-is) ∙ some in
-        let fault : shareFault l day s tells-of segments (length us) (length ss) ≡ None =
-        ap (λ (o : Option Refusal). unless o (cond (noWeight l s tells-of) (Some NoWeight) None) o) none ∙ cond-false _ _ _ nw in
-        let given : ss′ ≡ shares ++ drop n ss = divided-is rule us′ ss′ quantity e q d in
-        let long : n ≤ length shares = let p = length-shares rule law in omega arith in
-        let traders : creditedTo (l .traders) s ss′ n ≡ creditedTo (l .traders) s shares n = ap (λ u. creditedTo (l .traders) s u n) given ∙ creditedTo-front (l .traders) s shares (drop n ss) n long in
-        let book : closed l₂ loss ≡ sharedBook l s shares =
-        ap (λ (b : Book). closed b loss) (e₂ ∙ ap (λ (b : Book). withTraders b (map settled (b .traders))) e₁)
-        ∙ ap (λ (y : ℕ). closed (withTraders l (map settled (creditedTo (l .traders) s ss′ n))) y) x
-        ∙ ap (λ ts. closed (withTraders l (map settled ts)) (dayLoss (l .phase))) traders in
-        let state : closed l₂ loss ≡ shareBook l day s tells-of rule segments (length us) (length ss) =
-        book ∙ sym (ap (λ (o : Option Refusal). unless o (sharedBook l s shares) l) fault) in
-        let rest = drop n us in
-        record {
-          answer = ap (λ (y : ℕ). Ok (record { quantity = y; total = total; loss = loss })) q
-              ∙ ap (λ (y : ℕ). Ok (record { quantity = dayQuantity (l .phase); total = y; loss = loss })) total-is
-              ∙ ap (λ (y : ℕ). Ok (record { quantity = dayQuantity (l .phase); total = sum (dayUses l s tells-of); loss = y })) x
-              ∙ sym (ap (λ (o : Option Refusal). handedBack o day (shareTold l s tells-of)) fault);
-          state = state;
-          rows = r₁ ∙ ap (λ u. sharedRows (factorsAt told) s u n) given ∙ sharedRows-front (factorsAt told) s shares (drop n ss) n long
-              ∙ sharedRows-same (factorsAt told) (toldOn (l .phase) tells-of) s shares n told-same
-              ∙ sym (ap (λ (o : Option Refusal). unless o (sharedRows (toldOn (l .phase) tells-of) s shares n) s) fault);
-          weighed = e ∙ ap (λ u. u ++ rest) weighed-is
-              ∙ sym (ap (λ (o : Option Refusal). unless o (cond (noWeight l s tells-of) (replicate n 0) (dayUses l s tells-of) ++ rest) us) none ∙ ap (λ u. u ++ rest) (cond-false _ _ _ nw));
-          given = given ∙ sym (ap (λ (o : Option Refusal). unless o (shares ++ drop n ss) ss) fault);
-          sound = subst Sound (sym state) (share-sound l day s tells-of rule segments (length us) (length ss) law so);
-        }
+  -- the day was shared out
+  pub shared-out : (loss : ℕ) (told : List Factors) (m : Book) (s′ : List Point) (ss′ : List ℕ) → loss ≡ dayLoss (l .phase) → told ≡ map (toldOn (l .phase) tells-of) (counting 0 8) → (ltb 0 quantity && eqb total 0) ≡ false →
+      ss′ ≡ rule (dayQuantity (l .phase)) (take (l .counts .points) us′) ++ drop (l .counts .points) ss →
+      m ≡ sharedBook l s (rule (dayQuantity (l .phase)) (take (l .counts .points) us′)) →
+      s′ ≡ sharedRows (factorsAt told) s (rule (dayQuantity (l .phase)) (take (l .counts .points) us′)) (l .counts .points) →
+      Answered (Ok (record { quantity = quantity; total = total; loss = loss })) m s′ ss′
+  shared-out loss told m s′ ss′ x asked some d b r =
+      let n = l .counts .points in
+      let ok = passed l day s segments (length us) (length ss) none in
+      let shares = dayShares l s tells-of rule in
+      let same : rule (dayQuantity (l .phase)) (take n us′) ≡ shares = ap (rule (dayQuantity (l .phase))) front-is in
+      let nw : noWeight l s tells-of ≡ false = ap (λ (y : ℕ). ltb 0 y && eqb (sum (dayUses l s tells-of)) 0) (sym q) ∙ ap (λ (y : ℕ). ltb 0 quantity && eqb y 0) (sym t) ∙ some in
+      let fault : shareFault l day s tells-of segments (length us) (length ss) ≡ None =
+      ap (λ (o : Option Refusal). unless o (cond (noWeight l s tells-of) (Some NoWeight) None) o) none ∙ cond-false _ _ _ nw in
+      let rest = drop n us in
+      record {
+        answer =
+            ap (λ (y : ℕ). Ok (record { quantity = y; total = total; loss = loss })) q
+            ∙ ap (λ (y : ℕ). Ok (record { quantity = dayQuantity (l .phase); total = y; loss = loss })) t
+            ∙ ap (λ (y : ℕ). Ok (record { quantity = dayQuantity (l .phase); total = sum (dayUses l s tells-of); loss = y })) x
+            ∙ sym (ap (λ (o : Option Refusal). handedBack o day (shareTold l s tells-of)) fault);
+        state = b ∙ ap (sharedBook l s) same ∙ sym (ap (λ (o : Option Refusal). unless o (sharedBook l s shares) l) fault);
+        rows =
+            r ∙ ap (λ u. sharedRows (factorsAt told) s u n) same ∙ booked-is l s tells-of (length us) ok told asked shares
+            ∙ sym (ap (λ (o : Option Refusal). unless o (sharedRows (toldOn (l .phase) tells-of) s shares n) s) fault);
+        weighed =
+            e ∙ sym (ap (λ (o : Option Refusal). unless o (cond (noWeight l s tells-of) (replicate n 0) (dayUses l s tells-of) ++ rest) us) none ∙ ap (λ u. u ++ rest) (cond-false _ _ _ nw));
+        given = d ∙ ap (λ u. u ++ drop n ss) same ∙ sym (ap (λ (o : Option Refusal). unless o (shares ++ drop n ss) ss) fault);
+      }

@@ -1,7 +1,8 @@
 -- The share-out of a measured day: when it is refused, what it tells, and what every account, row and work sheet then holds.
-use mathlib.Core.Bool.{Bool, not, cond, _||_, _&&_}
+use mathlib.Core.Path.{_≡_}
+use mathlib.Core.Bool.{Bool, true, not, cond, _||_, _&&_}
 use mathlib.Core.List.{List, [], _∷_, _++_, map}
-use Prim.Native.Nat.{ℕ, _+_}
+use Prim.Native.Nat.{ℕ, _+_, _≤_}
 use lib.Dec.{ltb, leb, eqb}
 use lib.IntN.{ℤ}
 use lib.ListN.{length, take, drop, replicate}
@@ -22,6 +23,7 @@ use Rattle.ledger.specs.declared.day.SharedOut.{SharedOut}
 use Rattle.ledger.specs.declared.point.Point.{Point}
 use Rattle.ledger.specs.Accounts.{creditedTo, settled}
 use Rattle.ledger.specs.Days.{isMeasured, skyIn}
+use Rattle.ledger.specs.Limits.{maxPoints}
 use Rattle.ledger.specs.Grounds.{firstGround, handedBack, unless}
 use Rattle.ledger.specs.Rows.{sheetFits, every, mayShare, isFree, isServed, profileUses, sharedRows}
 
@@ -51,6 +53,13 @@ dayLoss (Measured n w g x q) = x
 -- the profile consumptions of the points admitted
 abbrev pub dayUses : Book → List Point → Tells → List ℕ
 dayUses l s tells = profileUses (toldOn (l .phase) tells) (take (l .counts .points) s)
+
+-- a sheet whose points can be weighed into a work sheet of some places, and shared out to
+pub record Weighable (l : Book) (s : List Point) (places : ℕ) : Type 0 where
+  pub room : l .counts .points ≤ length s
+  pub short : length s ≤ maxPoints
+  pub uses : l .counts .points ≤ places
+  pub rows : every (mayShare (l .counts .traders)) s (l .counts .points) ≡ true
 
 -- the shares of the points admitted
 abbrev pub dayShares : Book → List Point → Tells → Rule → List ℕ

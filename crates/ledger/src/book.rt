@@ -31,7 +31,7 @@ pub(crate) struct Trader {
 }
 
 // How many there have been: traders and points admitted, days opened and shared out, readings, and bookings with hand-overs.
-#[derive(Clone, Copy, PartialEq, Debug)]
+#[derive(Clone, Copy, PartialEq)]
 pub struct Counts {
     pub traders: u32,
     pub points: usize,

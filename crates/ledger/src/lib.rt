@@ -7,7 +7,6 @@ mod measured;
 mod point;
 
 pub use book::Counts;
-pub use book::CountsDebug;
 pub use book::CountsPartialEq;
 pub use day::MeasuredDay;
 pub use day::OpenDay;
@@ -17,8 +16,6 @@ pub use day::SharedOutDebug;
 pub use day::SharedOutPartialEq;
 pub use ledger::Ledger;
 pub use point::Particulars;
-pub use point::ParticularsDebug;
-pub use point::ParticularsPartialEq;
 pub use point::Point;
 pub use point::PointDebug;
 pub use point::PointPartialEq;

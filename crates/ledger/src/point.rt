@@ -37,7 +37,7 @@ impl Point {
 }
 
 // What is given when a point is admitted.
-#[derive(Clone, Copy, PartialEq, Debug)]
+#[derive(Clone, Copy)]
 pub struct Particulars {
     pub trader: u32,
     pub segment: u32,

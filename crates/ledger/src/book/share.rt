@@ -8,9 +8,9 @@ ghost use lib.Signed.{_≤ℤ_};
 ghost use lib.ListN.{length, take, drop};
 ghost use Rattle.std.specs.Iters.{counting};
 ghost use Rattle.std.specs.shelf.Lists.{sum};
-ghost use Rattle.ledger.specs.Accounts.{Sound, Settling, accountAt, credited, creditedTo, settled, withTraders};
+ghost use Rattle.ledger.specs.Accounts.{Sound, Settling, accountAt, credited, creditedTo, pending, settled, withTraders};
 ghost use Rattle.ledger.specs.Rows.{every, mayShare, factorsAt, rowAt, profileUse, profileUses, sharedRow, sharedRows};
-ghost use Rattle.ledger.specs.Sharing.{dayQuantity, dayLoss, shareGrounds, shareAnswer, shareBook, shareSheet, shareUses, shareShares};
+ghost use Rattle.ledger.specs.Sharing.{Weighable, toldOn, dayQuantity, dayLoss, dayUses, sharedBook, shareGrounds, shareAnswer, shareBook, shareSheet, shareUses, shareShares};
 use super::Book;
 use super::Trader;
 use super::rows::test_rows;
@@ -26,6 +26,13 @@ use profiles::Profile;
 use profiles::WHOLE;
 use refusals::Refusal;
 use shares::ShareRule;
+
+// A day's weights: what the profile told for each segment, and the sum of the profile consumptions.
+#[derive(Clone, Copy)]
+struct Weighed {
+    told: [Factors; 8],
+    total: u64,
+}
 
 // What the profile tells for each segment on a day. It is asked once a segment, and not once a point.
 fn ask<P: Profile>(profile: &P, weather: Weather) -> [Factors; 8]
@@ -181,6 +188,46 @@ impl Book {
         }
     }
 
+    // Asks the profile and weighs the points: their profile consumptions come into the first places of the work sheet.
+    fn weigh_day<P: Profile>(&self, sheet: &[Point], profile: &P, uses: &mut [u64]) -> Weighed
+        requires { ⌜ Weighable (now self) (now sheet) (length (now uses)) ⌝ }
+        ensures told { λ r. ⌜ r .told ≡ map (toldOn (now (self .entry) .phase) (P·Profile .tells (now (profile .entry)))) (counting 0 8) ⌝ }
+        ensures written { λ _. ⌜ now (uses .exit) ≡ dayUses (now (self .entry)) (now (sheet .entry)) (P·Profile .tells (now (profile .entry))) ++ drop (now (self .entry) .counts .points) (now (uses .entry)) ⌝ }
+        ensures total { λ r. ⌜ r .total ≡ sum (dayUses (now (self .entry)) (now (sheet .entry)) (P·Profile .tells (now (profile .entry)))) ⌝ }
+    {
+        let told = ask(profile, self.phase.weather());
+        let total = weigh(sheet, self.counts.points, &told, uses);
+        Weighed { told, total }
+    }
+
+    // Shares the running day's quantity by the rule, books the shares and closes the day.
+    fn close_day<R: ShareRule>(
+        &mut self,
+        sheet: &mut [Point],
+        rule: &R,
+        told: &[Factors; 8],
+        uses: &[u64],
+        shares: &mut [u64],
+    )
+        requires sound { ⌜ Sound (now self) ⌝ }
+        requires weighed { ⌜ Weighable (now self) (now sheet) (length (now uses)) ⌝ }
+        requires room { ⌜ now self .counts .points ≤ length (now shares) ⌝ }
+        requires running { ⌜ pending (now self .phase) ≡ 1 ⌝ }
+        ensures given { λ _. ⌜ now (shares .exit) ≡ R·ShareRule .shares (dayQuantity (now (self .entry) .phase)) (take (now (self .entry) .counts .points) (now (uses .entry))) ++ drop (now (self .entry) .counts .points) (now (shares .entry)) ⌝ }
+        ensures state { λ _. ⌜ now (self .exit) ≡ sharedBook (now (self .entry)) (now (sheet .entry)) (R·ShareRule .shares (dayQuantity (now (self .entry) .phase)) (take (now (self .entry) .counts .points) (now (uses .entry)))) ⌝ }
+        ensures rows { λ _. ⌜ now (sheet .exit) ≡ sharedRows (factorsAt (now (told .entry))) (now (sheet .entry)) (R·ShareRule .shares (dayQuantity (now (self .entry) .phase)) (take (now (self .entry) .counts .points) (now (uses .entry)))) (now (self .entry) .counts .points) ⌝ }
+    {
+        let n = self.counts.points;
+        let loss = self.phase.loss();
+        divide(rule, self.phase.quantity(), n, uses, shares);
+        self.credit(sheet, n, told, shares);
+        self.settle();
+        self.loss = self.loss + loss;
+        self.counts.shared = self.counts.shared + 1;
+        self.next_day = self.next_day + 1;
+        self.phase = Phase::Idle;
+    }
+
     pub(crate) fn share_out<P: Profile, R: ShareRule>(
         &mut self,
         day: MeasuredDay,
@@ -201,24 +248,16 @@ impl Book {
         match self.share_grounds::<P>(&day, sheet, uses.len(), shares.len()) {
             Some(why) => Err(Refused { why, token: day }),
             None => {
-                let n = self.counts.points;
                 let quantity = self.phase.quantity();
                 let loss = self.phase.loss();
-                let told = ask(profile, self.phase.weather());
-                let total = weigh(sheet, n, &told, uses);
+                let Weighed { told, total } = self.weigh_day(sheet, profile, uses);
                 if quantity > 0 && total == 0 {
                     return Err(Refused {
                         why: Refusal::NoWeight,
                         token: day,
                     });
                 }
-                divide(rule, quantity, n, uses, shares);
-                self.credit(sheet, n, &told, shares);
-                self.settle();
-                self.loss = self.loss + loss;
-                self.counts.shared = self.counts.shared + 1;
-                self.next_day = self.next_day + 1;
-                self.phase = Phase::Idle;
+                self.close_day(sheet, rule, &told, uses, shares);
                 let MeasuredDay { number: _ } = day;
                 Ok(SharedOut {
                     quantity,
