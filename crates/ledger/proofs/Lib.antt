@@ -1,0 +1,5 @@
+pub mod Grounds
+pub mod Accepted
+pub mod Rows
+pub mod Traders
+pub mod Keep
