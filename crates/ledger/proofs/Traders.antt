@@ -1,16 +1,15 @@
 -- Lemmas on lists of traders: their accounts and metered sums after an entry, a credit and the end of a day.
-use mathlib.Core.Path.{_≡_, refl, sym, ap, subst, _∙_}
+use mathlib.Core.Path.{_≡_, refl, sym, ap, _∙_}
 use mathlib.Core.Bool.{cond}
 use mathlib.Core.List.{List, [], _∷_, map}
-use Prim.Native.Nat.{ℕ, zero, suc, _+_, _*_, _≤_, _<_}
+use Prim.Native.Nat.{ℕ, zero, suc, _+_, _≤_, _<_}
 use native.Mathlib.Numerals.{add-one}
 use native.Mathlib.Nat.{zero-add, add-comm}
 use native.Mathlib.Omega.{arith}
 use lib.Dec.{eqb}
 use lib.IntN.{ℤ, pos, _+ℤ_, _-ℤ_}
-use lib.Signed.{_≤ℤ_}
 use lib.ListN.{length, getD, set, take, replicate}
-use Rattle.std.specs.shelf.Lists.{sum, sumBy}
+use Rattle.std.specs.shelf.Lists.{sum}
 use Rattle.std.proofs.shelf.Lists.{length-set}
 use Rattle.std.proofs.shelf.Sums.{sumBy-cons, sumBy-set, sumBy-take-le}
 use Rattle.std.proofs.shelf.Signed.{ints}
@@ -144,8 +143,8 @@ pub metered-entered : (ts : List Trader) (j q t : ℕ) → j < length ts → met
 metered-entered ts j q t h =
     set-at (λ (u : Trader). u .metered) ts j (record { account = accountAt ts j; metered = meteredAt ts j + q }) noTrader t h
     ∙ by-eqb j t (λ b. cond b (meteredAt ts j + q) (meteredAt ts t) ≡ cond b q 0 + meteredAt ts t)
-      (λ e. ap (λ (k : ℕ). meteredAt ts k + q) e ∙ add-comm (meteredAt ts t) q)
-      (λ n. sym (zero-add (meteredAt ts t)))
+    (λ e. ap (λ (k : ℕ). meteredAt ts k + q) e ∙ add-comm (meteredAt ts t) q)
+    (λ n. sym (zero-add (meteredAt ts t)))
 
 pub account-entered : (ts : List Trader) (j q t : ℕ) → accountAt (entered ts j q) t ≡ accountAt ts t
 account-entered ts j q t = account-set ts j _ t refl
