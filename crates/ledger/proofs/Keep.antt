@@ -22,7 +22,7 @@ use Rattle.ledger.specs.declared.day.Phase.the-variants.{Idle, Open, Measured}
 use Rattle.ledger.specs.declared.point.Particulars.{Particulars}
 use Rattle.ledger.specs.declared.point.Point.{Point}
 use Rattle.ledger.specs.Limits.{maxTraders, maxLitres, maxShared, maxOpened, lastDay}
-use Rattle.ledger.specs.Accounts.{accountAt, meteredAt, meteredSum, newBook, entered, unmetered, settled, creditedTo, Near, reach, dayHolds, pending, Sound, Settling}
+use Rattle.ledger.specs.Accounts.{accountAt, meteredAt, meteredSum, newBook, unmetered, settled, creditedTo, Near, reach, dayHolds, pending, Sound, Settling}
 use Rattle.ledger.specs.Days.{admitFault, admitBook, pointFault, pointBook, openFault, openBook, isOpen, enterFault, enterBook, lossOf, quantityOf, inflowFault, inflowBook, isMeasured, ended, abandonOpenFault, abandonOpenBook, abandonMeasuredFault, abandonMeasuredBook}
 use Rattle.ledger.specs.Sharing.{Tells, Rule, dayQuantity, dayLoss, dayUses, dayShares, shareFault, sharedBook, shareBook}
 use Rattle.ledger.specs.History.{LawfulRule}

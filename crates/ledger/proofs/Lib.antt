@@ -2,6 +2,8 @@ pub mod Grounds
 pub mod Accepted
 pub mod Rows
 pub mod Traders
+pub mod Places
+pub mod Totals
 pub mod Keep
 pub mod Loops
 pub mod Ranges

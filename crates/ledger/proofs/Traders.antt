@@ -1,14 +1,15 @@
 -- Lemmas on lists of traders: their accounts and metered sums after an entry, a credit and the end of a day.
-use mathlib.Core.Path.{_≡_, refl, sym, ap, subst, _∙_}
+use mathlib.Core.Path.{_≡_, refl, sym, ap, _∙_}
+use mathlib.Core.Bool.{cond}
 use mathlib.Core.List.{List, [], _∷_, map}
-use Prim.Native.Nat.{ℕ, zero, suc, _+_, _*_, _≤_, _<_}
+use Prim.Native.Nat.{ℕ, zero, suc, _+_, _≤_, _<_}
 use native.Mathlib.Numerals.{add-one}
-use native.Mathlib.Nat.{zero-add}
+use native.Mathlib.Nat.{zero-add, add-comm}
 use native.Mathlib.Omega.{arith}
+use lib.Dec.{eqb}
 use lib.IntN.{ℤ, pos, _+ℤ_, _-ℤ_}
-use lib.Signed.{_≤ℤ_}
 use lib.ListN.{length, getD, set, take, replicate}
-use Rattle.std.specs.shelf.Lists.{sum, sumBy}
+use Rattle.std.specs.shelf.Lists.{sum}
 use Rattle.std.proofs.shelf.Lists.{length-set}
 use Rattle.std.proofs.shelf.Sums.{sumBy-cons, sumBy-set, sumBy-take-le}
 use Rattle.std.proofs.shelf.Signed.{ints}
@@ -16,6 +17,7 @@ use Rattle.ledger.specs.declared.book.Trader.{Trader}
 use Rattle.ledger.specs.declared.point.Point.{Point}
 use Rattle.ledger.specs.Accounts.{noTrader, accountAt, meteredAt, meteredSum, credited, creditedTo, entered, settled, unmetered, Near}
 use Rattle.ledger.specs.Rows.{rowAt}
+use Rattle.ledger.proofs.Places.{by-eqb, set-at}
 
 -- Integers near nought.
 
@@ -135,6 +137,14 @@ meteredSum-entered ts t q h =
     let x : Trader = record { account = accountAt ts t; metered = meteredAt ts t + q } in
     let e : meteredSum (set ts t x) + meteredAt ts t ≡ meteredSum ts + (meteredAt ts t + q) = sumBy-set (λ (u : Trader). u .metered) ts t x noTrader h in
     omega arith
+
+-- a trader has his litres, and every other what he had
+pub metered-entered : (ts : List Trader) (j q t : ℕ) → j < length ts → meteredAt (entered ts j q) t ≡ cond (eqb j t) q 0 + meteredAt ts t
+metered-entered ts j q t h =
+    set-at (λ (u : Trader). u .metered) ts j (record { account = accountAt ts j; metered = meteredAt ts j + q }) noTrader t h
+    ∙ by-eqb j t (λ b. cond b (meteredAt ts j + q) (meteredAt ts t) ≡ cond b q 0 + meteredAt ts t)
+    (λ e. ap (λ (k : ℕ). meteredAt ts k + q) e ∙ add-comm (meteredAt ts t) q)
+    (λ n. sym (zero-add (meteredAt ts t)))
 
 pub account-entered : (ts : List Trader) (j q t : ℕ) → accountAt (entered ts j q) t ≡ accountAt ts t
 account-entered ts j q t = account-set ts j _ t refl
