@@ -11,7 +11,7 @@ use ledger::Point;
 
 // Where the litres are: the inflow of the days shared out lies in the loss, the traders' accounts and the correction account.
 #[derive(Clone, Copy)]
-pub struct Totals {
+pub struct Balance {
     pub inflow: i128,
     pub loss: u64,
     pub accounts: i128,
@@ -20,7 +20,7 @@ pub struct Totals {
 
 // The totals of a ledger. Whatever list of calls led to the ledger and this sheet, the law of the year holds of them, and the inflow
 // told is that of the days shared out.
-pub fn totals(ledger: &Ledger, _sheet: &[Point]) -> Totals
+pub fn totals(ledger: &Ledger, _sheet: &[Point]) -> Balance
     ensures loss { λ r. ⌜ r .loss ≡ now (ledger .entry) .book .loss ⌝ }
     ensures accounts { λ r. ⌜ r .accounts ≡ allAccounts (now (ledger .entry) .book .traders) ⌝ }
     ensures correction { λ r. ⌜ r .correction ≡ now (ledger .entry) .book .correction ⌝ }
@@ -31,7 +31,7 @@ pub fn totals(ledger: &Ledger, _sheet: &[Point]) -> Totals
     let loss = ledger.loss();
     let accounts = ledger.accounts();
     let correction = ledger.correction();
-    Totals {
+    Balance {
         inflow: loss as i128 + accounts + correction as i128,
         loss,
         accounts,
