@@ -53,7 +53,7 @@ rowWith p trader reading scale open-sum period slip kept =
       «open_sum» = open-sum;
       «period_sum» = period;
       slip = slip;
-      «kept_reading» = kept
+      «kept_reading» = kept;
     }
 
 -- a row with this slip and kept reading
@@ -89,7 +89,7 @@ oneMoreReading c =
       opened = c .opened;
       shared = c .shared;
       readings = c .readings + 1;
-      bookings = c .bookings
+      bookings = c .bookings;
     }
 
 abbrev pub readFault : Book → List Point → ℕ → ℕ → Option Refusal
@@ -122,7 +122,7 @@ oneMoreBooking c =
       opened = c .opened;
       shared = c .shared;
       readings = c .readings;
-      bookings = c .bookings + 1
+      bookings = c .bookings + 1;
     }
 
 -- the ledger after a row was booked: the correction is added to its trader's account and taken from the distributor's
@@ -134,7 +134,7 @@ bookedBook l p =
       loss = l .loss;
       correction = l .correction -ℤ rowCorrection p;
       «next_day» = l .«next_day»;
-      phase = l .phase
+      phase = l .phase;
     }
 
 -- the slip is not its point's open one, or there have been as many bookings as readings
