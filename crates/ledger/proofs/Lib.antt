@@ -9,3 +9,6 @@ pub mod Loops
 pub mod Ranges
 pub mod Crediting
 pub mod ShareOut
+pub mod AcceptedReadings
+pub mod Corrections
+pub mod KeepReadings
