@@ -1,7 +1,8 @@
 // Readings: a slip is opened, and ended by a booking, a hand-over or a withdrawal.
 ghost use mathlib.Core.Path.{_≡_};
-ghost use mathlib.Core.Bool.{true};
+ghost use mathlib.Core.Bool.{true, not, _||_};
 ghost use Prim.Native.Nat.{_+_, _*_, _^_, _≤_, _<_};
+ghost use lib.Dec.{leb};
 ghost use lib.IntN.{pos, _+ℤ_, _-ℤ_};
 ghost use lib.ListN.{length};
 ghost use Rattle.ledger.specs.Accounts.{Near, Sound};
@@ -177,6 +178,13 @@ impl Book {
         }
     }
 
+    // Whether this number is not the row's open slip, or there have been as many bookings as readings.
+    fn refuses_slip(&self, row: Point, number: u32) -> bool
+        ensures { λ r. ⌜ r ≡ (not (isSlipOf row number) || leb (now (self .entry) .counts .readings) (now (self .entry) .counts .bookings)) ⌝ }
+    {
+        !row.is_slip(number) || self.counts.bookings >= self.counts.readings
+    }
+
     // Why a slip is not booked.
     fn book_fault(&self, sheet: &[Point], slip: &Slip) -> Option<Refusal>
         ensures { λ r. ⌜ r ≡ bookFault (now (self .entry)) (now (sheet .entry)) (now (slip .entry)) ⌝ }
@@ -190,7 +198,7 @@ impl Book {
         if !sheet[slip.point].may_book(self.counts.traders) {
             return Some(Refusal::ForeignSheet);
         }
-        if !sheet[slip.point].is_slip(slip.number) || self.counts.bookings >= self.counts.readings {
+        if self.refuses_slip(sheet[slip.point], slip.number) {
             return Some(Refusal::NotOpenSlip);
         }
         None
@@ -250,7 +258,7 @@ impl Book {
         if !sheet[slip.point].may_book(self.counts.traders) {
             return Some(Refusal::ForeignSheet);
         }
-        if !sheet[slip.point].is_slip(slip.number) || self.counts.bookings >= self.counts.readings {
+        if self.refuses_slip(sheet[slip.point], slip.number) {
             return Some(Refusal::NotOpenSlip);
         }
         if sheet[slip.point].trader == trader {

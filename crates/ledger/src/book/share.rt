@@ -190,7 +190,7 @@ impl Book {
         for i in 0..n {
             let row = sheet[i];
             self.credit_one(row.trader, shares[i]);
-            sheet[i] = row.shared(shares[i], told[row.segment as usize].multiplier);
+            sheet[i] = row.shared(shares[i], told[row.segment as usize]);
         }
     }
 
@@ -286,14 +286,14 @@ impl Book {
 }
 
 impl Point {
-    // The row after a day's share and multiplier joined its sums.
-    fn shared(self, share: u64, multiplier: u32) -> Point
+    // The row after a day's share and the multiplier that was told for it joined its sums.
+    fn shared(self, share: u64, told: Factors) -> Point
         requires { ⌜ self .«open_sum» ≤ 5_000_000_000_000 ⌝ ∗ ⌜ self .«period_sum» ≤ 40_000_000_000 ⌝ ∗ ⌜ share ≤ 1_000_000_000 ⌝ }
-        ensures { λ r. ⌜ r ≡ sharedRow self share multiplier ⌝ }
+        ensures { λ r. ⌜ r ≡ sharedRow self share (told .multiplier) ⌝ }
     {
         Point {
             open_sum: self.open_sum + share,
-            period_sum: self.period_sum + multiplier as u64,
+            period_sum: self.period_sum + told.multiplier as u64,
             ..self
         }
     }
