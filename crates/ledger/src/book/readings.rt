@@ -235,9 +235,9 @@ impl Book {
             None => {
                 let Slip { number: _, point } = slip;
                 let row = sheet[point];
-                let by = self.book_row(row);
+                let told = self.book_row(row);
                 sheet[point] = row.booked(row.trader);
-                Ok(by)
+                Ok(told)
             }
         }
     }

@@ -18,8 +18,8 @@ use Rattle.ledger.proofs.AcceptedReadings.{books}
 use Rattle.ledger.proofs.KeepReadings.{book-sound}
 use Rattle.ledger.proofs.book.Book.book.Needs as need
 
-pub book-row-by-requires : need.book-row-by-requires
-book-row-by-requires c κs =
+pub book-row-told-requires : need.book-row-told-requires
+book-row-told-requires c κs =
     let k = books (c .args .self .now) (c .args .sheet .now) (c .args .slip) (sym (c .book-fault .ensures) ∙ c .in-None .is) in
     record { sound = c .pre; row = and-from _ _ (k .ranges) (lt-ltb _ _ (k .owned)); left = k .left }
 
@@ -33,11 +33,11 @@ returns-in-None c =
     let slip = c .args .slip in
     let row = rowAt s (slip .point) in
     let none : bookFault l s (c .args .slip) ≡ None = sym (c .book-fault .ensures) ∙ c .in-None .is in
-    let by = c .book-row-by .result in
+    let by = c .book-row-told .result in
     let fits : SFits w64 by = search needs in
-    let state = c .book-row-by .ensures .state ∙ sym (ap (λ (o : Option Refusal). unless o (bookedBook l row) l) none) in
+    let state = c .book-row-told .ensures .state ∙ sym (ap (λ (o : Option Refusal). unless o (bookedBook l row) l) none) in
     record {
-      answer = ap (λ (z : ℤ). Ok z) (toZ-ofZ w64 by fits ∙ c .book-row-by .ensures .told) ∙ sym (ap (λ (o : Option Refusal). handedBack o slip (rowCorrection row)) none);
+      answer = ap (λ (z : ℤ). Ok z) (toZ-ofZ w64 by fits ∙ c .book-row-told .ensures .told) ∙ sym (ap (λ (o : Option Refusal). handedBack o slip (rowCorrection row)) none);
       state = state;
       rows = ap (set s (slip .point)) (c .booked .ensures) ∙ sym (ap (λ (o : Option Refusal). unless o (set s (slip .point) (bookedRow row (rowAt s (c .args .slip .point) .trader))) s) none);
       sound = subst Sound (sym state) (book-sound l s (c .args .slip) (c .pre));
