@@ -47,18 +47,12 @@ fn by_another<P: Profile>(
     other: &mut Ledger,
     sheet: &mut [Point],
     profile: &P,
+    uses: &mut [u64],
+    shares: &mut [u64],
 ) -> Result<Outcome, Fail> {
     let day = measured(other, [0, 0], 1_000_000, 20_000)?;
     let before = Seen::of(ledger);
-    match sharing_out(
-        ledger,
-        day,
-        sheet,
-        profile,
-        &Running,
-        &mut [0; 3],
-        &mut [0; 3],
-    ) {
+    match sharing_out(ledger, day, sheet, profile, &Running, uses, shares) {
         Ok(_) => Ok(Outcome::new(0, before, ledger)),
         Err(Refused { why, token }) => {
             end_measured(other, token);
@@ -215,18 +209,42 @@ fn a_place_not_used() -> Result<(), Fail> {
     check(sheet[2] == foreign)
 }
 
+// A foreign row is told before a foreign day, and that before an open slip.
 #[test]
 fn another_ledger_s_day() -> Result<(), Fail> {
-    let mut sheet = [Point::UNUSED; 3];
-    let mut ledger = two_points(&mut sheet)?;
+    let mut ledger = two_points(&mut [Point::UNUSED; 3])?;
     let mut other = two_points(&mut [Point::UNUSED; 3])?;
     let profile = even(764_445)?;
-    check(by_another(&mut ledger, &mut other, &mut sheet, &profile)?.refused(20))?;
-    check(sheet == SHEET)?;
+    let mut sheet = SHEET;
+    let mut uses = [7; 3];
+    let mut shares = [8; 3];
+    check(by_another(
+        &mut ledger,
+        &mut other,
+        &mut sheet,
+        &profile,
+        &mut uses,
+        &mut shares,
+    )?.refused(20))?;
+    check(sheet == SHEET && uses == [7; 3] && shares == [8; 3])?;
     sheet[0].slip = 1;
-    check(by_another(&mut ledger, &mut other, &mut sheet, &profile)?.refused(20))?;
+    check(by_another(
+        &mut ledger,
+        &mut other,
+        &mut sheet,
+        &profile,
+        &mut uses,
+        &mut shares,
+    )?.refused(20))?;
     sheet[0].trader = 2;
-    check(by_another(&mut ledger, &mut other, &mut sheet, &profile)?.refused(11))
+    check(by_another(
+        &mut ledger,
+        &mut other,
+        &mut sheet,
+        &profile,
+        &mut uses,
+        &mut shares,
+    )?.refused(11))
 }
 
 // The table serves two segments, and tells 0 until it is filled. An open slip is told before a segment, and a segment before weights.
