@@ -13,7 +13,7 @@ use Rattle.std.proofs.shelf.Tests.{lt-ltb, le-ltb, le-leb, eq-eqb, ne-eqb, and-
 use Rattle.ledger.specs.declared.point.Particulars.{Particulars}
 use Rattle.ledger.specs.declared.point.Point.{Point}
 use Rattle.ledger.specs.Limits.{maxTraders, maxScale, maxOpenSum, fullOpenSum}
-use Rattle.ledger.specs.Readings.{used, correctionOf, newScale, slipped, rowUse, rowCorrection, bookedRow}
+use Rattle.ledger.specs.Readings.{used, correctionOf, newScale, slipped, rowUse, rowCorrection, bookedRow, mayBook}
 use Rattle.ledger.specs.Rows.{dialFits, particularsFit, inRange, mayShare, admittedRow, sharedRow}
 use Rattle.ledger.specs.Sharing.{Tells}
 use Rattle.ledger.proofs.Corrections.{Fitting, fitting, newScale-small}
@@ -209,7 +209,7 @@ fits-booked days p t f =
       period = omega arith;
     }
 
-pub row-ranges : (m days : ℕ) (p : Point) → m ≤ maxTraders → p .trader < m → days ≤ 4000 → RowFits days p → inRange p ≡ true
+row-ranges : (m days : ℕ) (p : Point) → m ≤ maxTraders → p .trader < m → days ≤ 4000 → RowFits days p → inRange p ≡ true
 row-ranges m days p few own most f =
     let a = f .shares in
     let b = f .period in
@@ -217,6 +217,9 @@ row-ranges m days p few own most f =
     (and-from (isFit p) _ (f .particulars)
     (and-from (dialFits (p .digits) (p .«kept_reading»)) _ (f .kept)
     (and-from (leb (p .«open_sum») maxOpenSum) _ (le-leb _ _ (omega arith)) (le-leb _ _ (omega arith)))))
+
+pub row-books : (m days : ℕ) (p : Point) → m ≤ maxTraders → p .trader < m → days ≤ 4000 → RowFits days p → mayBook m p ≡ true
+row-books m days p few own most f = and-from (inRange p) _ (row-ranges m days p few own most f) (lt-ltb _ _ own)
 
 pub row-shares : (m days : ℕ) (p : Point) → m ≤ maxTraders → p .trader < m → days + 1 ≤ 4000 → RowFits days p → mayShare m p ≡ true
 row-shares m days p few own most f =

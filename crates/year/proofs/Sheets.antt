@@ -14,14 +14,14 @@ use Rattle.profiles.specs.declared.factors.Factors.{Factors}
 use Rattle.ledger.specs.declared.point.Particulars.{Particulars}
 use Rattle.ledger.specs.declared.point.Point.{Point}
 use Rattle.ledger.specs.Limits.{maxTraders}
-use Rattle.ledger.specs.Readings.{slipped, bookedRow}
-use Rattle.ledger.specs.Rows.{rowAt, noRow, dialFits, inRange, mayShare, every, admittedRow, sharedRows}
+use Rattle.ledger.specs.Readings.{slipped, bookedRow, mayBook}
+use Rattle.ledger.specs.Rows.{rowAt, noRow, dialFits, mayShare, every, admittedRow, sharedRows}
 use Rattle.ledger.specs.Sharing.{Tells}
 use Rattle.ledger.proofs.Rows.{every-from, length-sharedRows, row-sharedRows}
 use Rattle.year.specs.Settlements.{Day, Settlement, joined, dayShared, booked, pointsIn}
 use Rattle.year.specs.Quantities.{toldFor, sharesSince}
 use Rattle.year.specs.Law.{RowAgrees}
-use Rattle.year.proofs.Rows.{Same, same-older, same-other, agrees-still, agrees-joined, agrees-shared, agrees-slipped, agrees-booked, RowFits, isFit, fits-new, fits-slipped, fits-booked, row-ranges, row-shares}
+use Rattle.year.proofs.Rows.{Same, same-older, same-other, agrees-still, agrees-joined, agrees-shared, agrees-slipped, agrees-booked, RowFits, isFit, fits-new, fits-slipped, fits-booked, row-books, row-shares}
 
 -- taken: the reading taken last at the point
 pub record RowHolds (c : List Settlement) (taken traders days k : ℕ) (p : Point) : Type 0 where
@@ -185,9 +185,9 @@ module _ (c : List Settlement) (taken : ℕ → ℕ) (n m days : ℕ) (s : List 
 
   -- The sheet is the ledger's own.
 
-  pub sheet-own : m ≤ maxTraders → days ≤ 4000 → every inRange s n ≡ true
+  pub sheet-own : m ≤ maxTraders → days ≤ 4000 → every (mayBook m) s n ≡ true
   sheet-own few most =
-      every-from inRange s n (λ k q. let r = h .rows k q in row-ranges m days (rowAt s k) few (r .owned) most (r .fits))
+      every-from (mayBook m) s n (λ k q. let r = h .rows k q in row-books m days (rowAt s k) few (r .owned) most (r .fits))
 
   pub sheet-ready : m ≤ maxTraders → days + 1 ≤ 4000 → every (mayShare m) s n ≡ true
   sheet-ready few most =
