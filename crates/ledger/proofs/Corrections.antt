@@ -1,11 +1,10 @@
 -- A row in its ranges: what its dial can have turned, what its point can have used, and what a booking can move.
 use mathlib.Core.Path.{_≡_}
 use mathlib.Core.Bool.{true}
-use Prim.Native.Nat.{ℕ, _+_, _-_, _*_, _^_, _≤_, _<_}
+use Prim.Native.Nat.{ℕ, _+_, _-_, _^_, _≤_, _<_}
 use native.Mathlib.Omega.{arith}
 use native.Mathlib.Nat.{mul-le-mul, pow-le-pow-right, min-le-left}
 use lib.Dec.{ltb}
-use lib.IntN.{pos}
 use Rattle.std.proofs.shelf.Signed.{ints}
 use Rattle.std.proofs.shelf.Tests.{ltb-true, ltb-false, leb-true, and-parts, cond-both}
 use Rattle.ledger.specs.declared.point.Point.{Point}

@@ -9,11 +9,11 @@ use Rattle.ledger.specs.declared.book.Book.{Book}
 use Rattle.ledger.specs.declared.book.Trader.{Trader}
 use Rattle.ledger.specs.declared.point.Point.{Point}
 use Rattle.ledger.specs.declared.slip.Slip.{Slip}
-use Rattle.ledger.specs.Accounts.{accountAt, meteredSum, credited, Near, reach, dayHolds, Sound}
+use Rattle.ledger.specs.Accounts.{accountAt, credited, Near, reach, dayHolds, Sound}
 use Rattle.ledger.specs.Limits.{maxCorrection}
-use Rattle.ledger.specs.Readings.{rowCorrection, oneMoreReading, oneMoreBooking, readFault, readBook, bookedBook, bookFault, bookBook, handFault, handBook}
+use Rattle.ledger.specs.Readings.{rowCorrection, oneMoreBooking, readFault, readBook, bookedBook, bookFault, bookBook, handFault, handBook}
 use Rattle.ledger.specs.Rows.{rowAt, inRange}
-use Rattle.ledger.proofs.AcceptedReadings.{Books, reads, books, hands-over}
+use Rattle.ledger.proofs.AcceptedReadings.{reads, books, hands-over}
 use Rattle.ledger.proofs.Corrections.{correction-near}
 use Rattle.ledger.proofs.Grounds.{by-unless}
 use Rattle.ledger.proofs.Traders.{near-more, near-add, near-sub, at-set, meteredSum-set}

@@ -18,14 +18,14 @@ use Rattle.std.proofs.shelf.Tests.{lt-ltb, le-ltb, le-leb, eq-eqb, ltb-false, e
 use Rattle.profiles.specs.declared.factors.Factors.{Factors}
 use Rattle.shares.specs.Fair.{fair, maxQuantity, maxWeights, maxWeight}
 use Rattle.ledger.specs.declared.point.Point.{Point}
-use Rattle.ledger.specs.Rows.{rowAt, noRow, profileUse, profileUses, particularsFit}
+use Rattle.ledger.specs.Rows.{rowAt, noRow, profileUse, profileUses}
 use Rattle.ledger.specs.Sharing.{Tells, Rule}
 use Rattle.ledger.specs.History.{LawfulProfile, LawfulRule}
 use Rattle.ledger.proofs.Keep.{shares-within}
 use Rattle.year.specs.Settlements.{Day, Settlement, pointsIn}
 use Rattle.year.specs.Quantities.{givenFor, scaleOf, toldFor, weightOf, quantityOn}
 use Rattle.year.specs.Law.{Proportional, FairDay, RowAgrees}
-use Rattle.year.proofs.Rows.{row-fitting}
+use Rattle.year.proofs.Rows.{isFit, row-fitting}
 
 -- Weights.
 
@@ -56,7 +56,7 @@ use-small scale factor h k =
     let b : scale * factor ≤ 10_000_000 * 2_000_000 = omega arith in
     div-le-of-le-mul 10_000_000 b
 
-pub weight-small : (c : List Settlement) (d : Day) (tells : Tells) (k : ℕ) (p : Point) → LawfulProfile tells → RowAgrees c k p → particularsFit (p .segment) (p .digits) (p .«litres_per_unit») (p .reading) (p .«scale_factor») ≡ true → weightOf c d tells k ≤ maxWeight
+pub weight-small : (c : List Settlement) (d : Day) (tells : Tells) (k : ℕ) (p : Point) → LawfulProfile tells → RowAgrees c k p → isFit p ≡ true → weightOf c d tells k ≤ maxWeight
 weight-small c d tells k p law a f =
     let most = row-fitting p f .scale-most in
     let same = a .scale in

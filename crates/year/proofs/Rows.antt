@@ -1,6 +1,6 @@
 -- The row of one point is what the settlements give for it, with one settlement more as well, and within its ranges.
 use mathlib.Core.Path.{_≡_, refl, sym, ap, _∙_}
-use mathlib.Core.Bool.{Bool, true, false, cond}
+use mathlib.Core.Bool.{Bool, true, false}
 use mathlib.Core.List.{List, [], _∷_}
 use mathlib.Core.Logic.{_≢_}
 use Prim.Native.Nat.{ℕ, _+_, _*_, _^_, _≤_, _<_}
@@ -13,7 +13,7 @@ use Rattle.std.proofs.shelf.Tests.{lt-ltb, le-ltb, le-leb, eq-eqb, ne-eqb, and-
 use Rattle.ledger.specs.declared.point.Particulars.{Particulars}
 use Rattle.ledger.specs.declared.point.Point.{Point}
 use Rattle.ledger.specs.Limits.{maxTraders, maxScale, maxOpenSum, fullOpenSum}
-use Rattle.ledger.specs.Readings.{used, correctionOf, newScale, slipped, rowUse, rowCorrection, bookedRow}
+use Rattle.ledger.specs.Readings.{used, correctionOf, newScale, slipped, rowUse, rowCorrection, bookedRow, mayBook}
 use Rattle.ledger.specs.Rows.{dialFits, particularsFit, inRange, mayShare, admittedRow, sharedRow}
 use Rattle.ledger.specs.Sharing.{Tells}
 use Rattle.ledger.proofs.Corrections.{Fitting, fitting, newScale-small}
@@ -116,6 +116,21 @@ agrees-shared c d tells qs k y p h f a =
       period = sum ∙ sym (cond-true _ _ _ (lt-ltb k (pointsIn c) h));
     }
 
+-- A reading taken or withdrawn.
+
+pub agrees-slipped : (c : List Settlement) (k : ℕ) (p : Point) (slip v : ℕ) → RowAgrees c k p → RowAgrees c k (slipped p slip v)
+agrees-slipped c k p slip v a =
+    record {
+      trader = a .trader;
+      segment = a .segment;
+      digits = a .digits;
+      litres = a .litres;
+      reading = a .reading;
+      scale = a .scale;
+      shares = a .shares;
+      period = a .period;
+    }
+
 -- A reading booked.
 
 module _ (c : List Settlement) (k v : ℕ) (p : Point) (kept : p .«kept_reading» ≡ v) (a : RowAgrees c k p) where
@@ -146,9 +161,13 @@ module _ (c : List Settlement) (k v : ℕ) (p : Point) (kept : p .«kept_reading
 
 -- Ranges.
 
+-- a row's particulars are in their ranges
+abbrev pub isFit : Point → Bool
+isFit p = particularsFit (p .segment) (p .digits) (p .«litres_per_unit») (p .reading) (p .«scale_factor»)
+
 -- a row within its ranges, after some days shared out
 pub record RowFits (days : ℕ) (p : Point) : Type 0 where
-  pub particulars : particularsFit (p .segment) (p .digits) (p .«litres_per_unit») (p .reading) (p .«scale_factor») ≡ true
+  pub particulars : isFit p ≡ true
   pub kept : dialFits (p .digits) (p .«kept_reading») ≡ true
   pub shares : p .«open_sum» ≤ days * 1_000_000_000
   pub period : p .«period_sum» ≤ days * 10_000_000
@@ -156,7 +175,7 @@ pub record RowFits (days : ℕ) (p : Point) : Type 0 where
 pub dial-nought : (digits : ℕ) → dialFits digits 0 ≡ true
 dial-nought digits = lt-ltb 0 (10 ^ digits) (one-le-pow digits 10 (omega arith))
 
-pub fits-new : (g : Particulars) (days : ℕ) → particularsFit (g .segment) (g .digits) (g .«litres_per_unit») (g .reading) (g .«scale_factor») ≡ true → RowFits days (admittedRow g)
+pub fits-new : (g : Particulars) (days : ℕ) → isFit (admittedRow g) ≡ true → RowFits days (admittedRow g)
 fits-new g days f =
     record { particulars = f; kept = dial-nought (g .digits); shares = omega arith; period = omega arith }
 
@@ -165,7 +184,7 @@ fits-slipped days p slip v dial f =
     record { particulars = f .particulars; kept = dial; shares = f .shares; period = f .period }
 
 -- what the test of a row's particulars says
-pub row-fitting : (p : Point) → particularsFit (p .segment) (p .digits) (p .«litres_per_unit») (p .reading) (p .«scale_factor») ≡ true → Fitting (p .segment) (p .digits) (p .«litres_per_unit») (p .reading) (p .«scale_factor»)
+pub row-fitting : (p : Point) → isFit p ≡ true → Fitting (p .segment) (p .digits) (p .«litres_per_unit») (p .reading) (p .«scale_factor»)
 row-fitting p e = fitting (p .segment) (p .digits) (p .«litres_per_unit») (p .reading) (p .«scale_factor») e
 
 -- with the kept reading in the place of the last one, and another scale factor within its limit
@@ -190,14 +209,17 @@ fits-booked days p t f =
       period = omega arith;
     }
 
-pub row-ranges : (m days : ℕ) (p : Point) → m ≤ maxTraders → p .trader < m → days ≤ 4000 → RowFits days p → inRange p ≡ true
+row-ranges : (m days : ℕ) (p : Point) → m ≤ maxTraders → p .trader < m → days ≤ 4000 → RowFits days p → inRange p ≡ true
 row-ranges m days p few own most f =
     let a = f .shares in
     let b = f .period in
     and-from (ltb (p .trader) maxTraders) _ (lt-ltb _ _ (omega arith))
-    (and-from (particularsFit (p .segment) (p .digits) (p .«litres_per_unit») (p .reading) (p .«scale_factor»)) _ (f .particulars)
+    (and-from (isFit p) _ (f .particulars)
     (and-from (dialFits (p .digits) (p .«kept_reading»)) _ (f .kept)
     (and-from (leb (p .«open_sum») maxOpenSum) _ (le-leb _ _ (omega arith)) (le-leb _ _ (omega arith)))))
+
+pub row-books : (m days : ℕ) (p : Point) → m ≤ maxTraders → p .trader < m → days ≤ 4000 → RowFits days p → mayBook m p ≡ true
+row-books m days p few own most f = and-from (inRange p) _ (row-ranges m days p few own most f) (lt-ltb _ _ own)
 
 pub row-shares : (m days : ℕ) (p : Point) → m ≤ maxTraders → p .trader < m → days + 1 ≤ 4000 → RowFits days p → mayShare m p ≡ true
 row-shares m days p few own most f =

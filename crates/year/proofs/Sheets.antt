@@ -1,6 +1,6 @@
 -- The rows of the ledger's own sheet are what the settlements give, and within their ranges.
 use mathlib.Core.Path.{_≡_, refl, sym, ap, subst, _∙_}
-use mathlib.Core.Bool.{true, cond}
+use mathlib.Core.Bool.{true}
 use mathlib.Core.List.{List, [], _∷_}
 use mathlib.Core.Logic.{_≢_, ⊎-elim}
 use Prim.Native.Nat.{ℕ, _+_, _≤_, _<_}
@@ -14,14 +14,14 @@ use Rattle.profiles.specs.declared.factors.Factors.{Factors}
 use Rattle.ledger.specs.declared.point.Particulars.{Particulars}
 use Rattle.ledger.specs.declared.point.Point.{Point}
 use Rattle.ledger.specs.Limits.{maxTraders}
-use Rattle.ledger.specs.Readings.{slipped, bookedRow}
-use Rattle.ledger.specs.Rows.{rowAt, noRow, dialFits, particularsFit, inRange, mayShare, every, admittedRow, sharedRows}
+use Rattle.ledger.specs.Readings.{slipped, bookedRow, mayBook}
+use Rattle.ledger.specs.Rows.{rowAt, noRow, dialFits, mayShare, every, admittedRow, sharedRows}
 use Rattle.ledger.specs.Sharing.{Tells}
 use Rattle.ledger.proofs.Rows.{every-from, length-sharedRows, row-sharedRows}
 use Rattle.year.specs.Settlements.{Day, Settlement, joined, dayShared, booked, pointsIn}
 use Rattle.year.specs.Quantities.{toldFor, sharesSince}
 use Rattle.year.specs.Law.{RowAgrees}
-use Rattle.year.proofs.Rows.{Same, same-older, same-other, agrees-still, agrees-joined, agrees-shared, agrees-booked, RowFits, fits-new, fits-slipped, fits-booked, row-ranges, row-shares}
+use Rattle.year.proofs.Rows.{Same, same-older, same-other, agrees-still, agrees-joined, agrees-shared, agrees-slipped, agrees-booked, RowFits, isFit, fits-new, fits-slipped, fits-booked, row-books, row-shares}
 
 -- taken: the reading taken last at the point
 pub record RowHolds (c : List Settlement) (taken traders days k : ℕ) (p : Point) : Type 0 where
@@ -79,7 +79,7 @@ row-still c c′ v m days k p e r =
 -- One more point.
 
 module _ (c : List Settlement) (taken : ℕ → ℕ) (n m days : ℕ) (s : List Point) (h : Sheet c taken n m days s) where
-  row-joined : (g : Particulars) → g .trader < m → particularsFit (g .segment) (g .digits) (g .«litres_per_unit») (g .reading) (g .«scale_factor») ≡ true → RowHolds (joined g ∷ c) (taken n) m days n (admittedRow g)
+  row-joined : (g : Particulars) → g .trader < m → isFit (admittedRow g) ≡ true → RowHolds (joined g ∷ c) (taken n) m days n (admittedRow g)
   row-joined g own f =
       let count = h .count in
       record {
@@ -89,7 +89,7 @@ module _ (c : List Settlement) (taken : ℕ → ℕ) (n m days : ℕ) (s : List 
         kept = λ some. absurd (some refl);
       }
 
-  pub sheet-joined : (g : Particulars) → n < length s → g .trader < m → particularsFit (g .segment) (g .digits) (g .«litres_per_unit») (g .reading) (g .«scale_factor») ≡ true → Sheet (joined g ∷ c) taken (n + 1) m days (set s n (admittedRow g))
+  pub sheet-joined : (g : Particulars) → n < length s → g .trader < m → isFit (admittedRow g) ≡ true → Sheet (joined g ∷ c) taken (n + 1) m days (set s n (admittedRow g))
   unfolding sharesSince
   sheet-joined g room own f =
       let len = length-set s n (admittedRow g) in
@@ -113,26 +113,13 @@ module _ (c : List Settlement) (taken : ℕ → ℕ) (n m days : ℕ) (s : List 
       let x = slipped p slip v in
       let len = length-set s k x in
       let room = h .room in
-      let f : RowAgrees c k p = r .agrees in
-      let a : RowAgrees c k x =
-      record {
-        trader = f .trader;
-        segment = f .segment;
-        digits = f .digits;
-        litres = f .litres;
-        reading = f .reading;
-        scale = f .scale;
-        shares = f .shares;
-        period = f .period;
-      }
-      in
       record {
         count = h .count;
         room = omega arith;
         rows =
             λ j q.
             row-set (λ (i : ℕ) w. RowHolds c (taken′ i) m days i w) s k x j (omega arith)
-            (record { agrees = a; owned = r .owned; fits = fits-slipped days p slip v dial (r .fits); kept = now })
+            (record { agrees = agrees-slipped c k p slip v (r .agrees); owned = r .owned; fits = fits-slipped days p slip v dial (r .fits); kept = now })
             (λ ne. subst (λ (y : ℕ). RowHolds c y m days j (rowAt s j)) (others j ne) (h .rows j q));
         later = h .later;
       }
@@ -198,9 +185,9 @@ module _ (c : List Settlement) (taken : ℕ → ℕ) (n m days : ℕ) (s : List 
 
   -- The sheet is the ledger's own.
 
-  pub sheet-own : m ≤ maxTraders → days ≤ 4000 → every inRange s n ≡ true
+  pub sheet-own : m ≤ maxTraders → days ≤ 4000 → every (mayBook m) s n ≡ true
   sheet-own few most =
-      every-from inRange s n (λ k q. let r = h .rows k q in row-ranges m days (rowAt s k) few (r .owned) most (r .fits))
+      every-from (mayBook m) s n (λ k q. let r = h .rows k q in row-books m days (rowAt s k) few (r .owned) most (r .fits))
 
   pub sheet-ready : m ≤ maxTraders → days + 1 ≤ 4000 → every (mayShare m) s n ≡ true
   sheet-ready few most =

@@ -4,14 +4,15 @@ use mathlib.Core.Path.{_≡_}
 use mathlib.Core.Bool.{true, false}
 use mathlib.Core.List.{List, [], _∷_}
 use Prim.Native.Nat.{ℕ, _<_}
-use lib.IntN.{ℤ, pos, _+ℤ_, _-ℤ_}
+use lib.IntN.{pos, _+ℤ_, _-ℤ_}
 use lib.ListN.{getD}
 use Rattle.shares.specs.Fair.{Near}
 use Rattle.ledger.specs.declared.book.Book.{Book}
 use Rattle.ledger.specs.declared.point.Point.{Point}
 use Rattle.ledger.specs.Accounts.{accountAt, allAccounts}
 use Rattle.ledger.specs.Days.{isIdle}
-use Rattle.ledger.specs.Rows.{rowAt, every, inRange, mayShare}
+use Rattle.ledger.specs.Readings.{mayBook}
+use Rattle.ledger.specs.Rows.{rowAt, every, mayShare}
 use Rattle.ledger.specs.Sharing.{Tells}
 use Rattle.year.specs.Settlements.{Day, Settlement, joined, dayShared, booked, pointsIn, traderOf}
 use Rattle.year.specs.Quantities.{quantityOn, givenFor, readingOf, scaleOf, sharesOf, sharesSince, periodOf, consumptionOf, correctionsOf, weightOf, weightSum, accountOf, correctionsIn, inflowOf, lossesOf}
@@ -60,6 +61,7 @@ pub record YearLaw (c : List Settlement) (l : Book) (s : List Point) : Type 0 wh
   -- the ledger's points and their rows are those of the history
   pub points : l .counts .points ≡ pointsIn c
   pub rows : (k : ℕ) → k < pointsIn c → RowAgrees c k (rowAt s k)
-  -- its own sheet is never refused as another's: each row is in its ranges, and a running day can be shared out to all
-  pub own : every inRange s (l .counts .points) ≡ true
+  -- its own sheet is never refused as another's: each row is in its ranges and of an admitted trader, and a running day can be
+  -- shared out to all
+  pub own : every (mayBook (l .counts .traders)) s (l .counts .points) ≡ true
   pub ready : isIdle (l .phase) ≡ false → every (mayShare (l .counts .traders)) s (l .counts .points) ≡ true

@@ -10,7 +10,7 @@ use Rattle.std.specs.Results.{isOk}
 use Rattle.std.specs.declared.result.Result.{Result}
 use Rattle.std.specs.declared.result.Result.the-variants.{Ok, Err}
 use Rattle.ledger.specs.declared.point.Particulars.{Particulars}
-use Rattle.ledger.specs.History.{History, Event, TraderAdmitted, PointAdmitted, Opened, Entered, InflowTaken, Shared, OpenAbandoned, MeasuredAbandoned, PointRead, Booked, HandedOver, Withdrawn}
+use Rattle.ledger.specs.History.{History, TraderAdmitted, PointAdmitted, Opened, Entered, InflowTaken, Shared, OpenAbandoned, MeasuredAbandoned, PointRead, Booked, HandedOver, Withdrawn}
 use Rattle.ledger.specs.Sharing.{Tells}
 
 -- what an accepted call changes, and what stays as it was after a refused one
