@@ -34,13 +34,24 @@ impl Seen {
             ],
         }
     }
+
+    // The same but for the number of days opened.
+    pub(crate) fn with_opened(self, opened: u32) -> Seen {
+        Seen {
+            counts: Counts {
+                opened,
+                ..self.counts
+            },
+            ..self
+        }
+    }
 }
 
 // How a call was answered: the number of its refusal, 0 where it was accepted, and whether the ledger stayed as it was.
 #[derive(Clone, Copy)]
 pub(crate) struct Outcome {
-    number: u8,
-    unchanged: bool,
+    pub(crate) number: u8,
+    pub(crate) unchanged: bool,
 }
 
 impl Outcome {
