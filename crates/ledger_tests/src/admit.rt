@@ -49,7 +49,7 @@ fn unfit(given: Particulars) -> Result<bool, Fail> {
 }
 
 // Each particular one past an end of its range.
-const PAST: [Particulars; 9] = [
+static PAST: [Particulars; 9] = [
     Particulars {
         segment: 8,
         ..GIVEN
@@ -90,8 +90,8 @@ const PAST: [Particulars; 9] = [
 
 #[test]
 fn particulars_past_their_ends() -> Result<(), Fail> {
-    for given in PAST {
-        check(unfit(given)?)?;
+    for given in &PAST {
+        check(unfit(*given)?)?;
     }
     Ok(())
 }

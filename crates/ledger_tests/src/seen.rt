@@ -66,9 +66,18 @@ impl Outcome {
         self.number == 0
     }
 
-    // A refusal has to leave the ledger as it was.
+    // As a refusal of that number has to be: the ledger stayed as it was.
     pub(crate) fn refused(self, number: u8) -> bool {
         self.number == number && self.unchanged
+    }
+
+    // Whether the call was refused by this number, or accepted where it is 0.
+    pub(crate) fn is(self, number: u8) -> bool {
+        if number == 0 {
+            self.accepted()
+        } else {
+            self.refused(number)
+        }
     }
 }
 

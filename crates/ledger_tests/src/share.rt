@@ -91,7 +91,7 @@ const FOREIGN: Point = Point {
 };
 
 // Rows out of their ranges, of a trader not admitted, or without room for one more day.
-const FOREIGNERS: [Point; 12] = [
+static FOREIGNERS: [Point; 12] = [
     FOREIGN,
     Point {
         trader: 2,
@@ -148,8 +148,8 @@ fn beside(row: Point) -> Result<u8, Fail> {
 
 #[test]
 fn rows_of_another_ledger() -> Result<(), Fail> {
-    for row in FOREIGNERS {
-        check(beside(row)? == 11)?;
+    for row in &FOREIGNERS {
+        check(beside(*row)? == 11)?;
     }
     Ok(())
 }
