@@ -49,48 +49,49 @@ fn unfit(given: Particulars) -> Result<bool, Fail> {
 }
 
 // Each particular one past an end of its range.
+static PAST: [Particulars; 9] = [
+    Particulars {
+        segment: 8,
+        ..GIVEN
+    },
+    Particulars {
+        digits: 3,
+        reading: 0,
+        ..GIVEN
+    },
+    Particulars { digits: 9, ..GIVEN },
+    Particulars {
+        litres_per_unit: 0,
+        ..GIVEN
+    },
+    Particulars {
+        litres_per_unit: 2001,
+        ..GIVEN
+    },
+    Particulars {
+        reading: 100_000,
+        ..GIVEN
+    },
+    Particulars {
+        digits: 4,
+        reading: 10_000,
+        ..GIVEN
+    },
+    Particulars {
+        digits: 8,
+        reading: 100_000_000,
+        ..GIVEN
+    },
+    Particulars {
+        scale_factor: 2_000_001,
+        ..GIVEN
+    },
+];
+
 #[test]
 fn particulars_past_their_ends() -> Result<(), Fail> {
-    let past = [
-        Particulars {
-            segment: 8,
-            ..GIVEN
-        },
-        Particulars {
-            digits: 3,
-            reading: 0,
-            ..GIVEN
-        },
-        Particulars { digits: 9, ..GIVEN },
-        Particulars {
-            litres_per_unit: 0,
-            ..GIVEN
-        },
-        Particulars {
-            litres_per_unit: 2001,
-            ..GIVEN
-        },
-        Particulars {
-            reading: 100_000,
-            ..GIVEN
-        },
-        Particulars {
-            digits: 4,
-            reading: 10_000,
-            ..GIVEN
-        },
-        Particulars {
-            digits: 8,
-            reading: 100_000_000,
-            ..GIVEN
-        },
-        Particulars {
-            scale_factor: 2_000_001,
-            ..GIVEN
-        },
-    ];
-    for given in past {
-        check(unfit(given)?)?;
+    for given in &PAST {
+        check(unfit(*given)?)?;
     }
     Ok(())
 }

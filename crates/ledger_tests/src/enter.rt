@@ -7,31 +7,32 @@ use crate::days::opened;
 use crate::seen::Outcome;
 use crate::station::two_traders;
 use ledger::Ledger;
-use refusals::RefusalDebug;
 use std::test::*;
 
-// Tries an entry into a day on which so much was metered for the first trader.
-fn after(ledger: &mut Ledger, metered: u64, trader: u32, litres: u64) -> Result<Outcome, Fail> {
+// An entry on a day on which so much was metered before, and the number of its refusal, 0 for none.
+struct Entry {
+    metered: u64,
+    trader: u32,
+    litres: u64,
+    number: u8,
+}
+
+// Tries an entry.
+fn tried(ledger: &mut Ledger, case: &Entry) -> Result<Outcome, Fail> {
     let day = opened(ledger)?;
-    let _ = entry(ledger, &day, 0, metered);
-    let outcome = entry(ledger, &day, trader, litres);
+    let _ = entry(ledger, &day, 0, case.metered);
+    let outcome = entry(ledger, &day, case.trader, case.litres);
     end_open(ledger, day);
     Ok(outcome)
 }
 
-// Tries an entry by another ledger's day, while a day of this one's is open, on which so much was metered.
-fn by_another(
-    ledger: &mut Ledger,
-    other: &mut Ledger,
-    metered: u64,
-    trader: u32,
-    litres: u64,
-) -> Result<Outcome, Fail> {
+// Tries an entry by another ledger's day, while a day of this one's is open.
+fn by_another(ledger: &mut Ledger, other: &mut Ledger, case: &Entry) -> Result<Outcome, Fail> {
     let own = opened(ledger)?;
-    let _ = entry(ledger, &own, 0, metered);
+    let _ = entry(ledger, &own, 0, case.metered);
     match opened(other) {
         Ok(theirs) => {
-            let outcome = entry(ledger, &theirs, trader, litres);
+            let outcome = entry(ledger, &theirs, case.trader, case.litres);
             end_open(other, theirs);
             end_open(ledger, own);
             Ok(outcome)
@@ -60,25 +61,88 @@ fn into_measured(ledger: &mut Ledger, other: &mut Ledger) -> Result<Outcome, Fai
     }
 }
 
+// The last two meet two grounds, and the first is told.
+static ENTRIES: [Entry; 6] = [
+    Entry {
+        metered: 0,
+        trader: 2,
+        litres: 1,
+        number: 3,
+    },
+    Entry {
+        metered: 0,
+        trader: 1,
+        litres: 1_000_000_001,
+        number: 6,
+    },
+    Entry {
+        metered: 999_999_999,
+        trader: 1,
+        litres: 2,
+        number: 24,
+    },
+    Entry {
+        metered: 999_999_999,
+        trader: 1,
+        litres: 1,
+        number: 0,
+    },
+    Entry {
+        metered: 0,
+        trader: 2,
+        litres: 1_000_000_001,
+        number: 3,
+    },
+    Entry {
+        metered: 1,
+        trader: 1,
+        litres: 1_000_000_001,
+        number: 6,
+    },
+];
+
 #[test]
 fn entries_refused() -> Result<(), Fail> {
     let mut ledger = two_traders()?;
-    check(after(&mut ledger, 0, 2, 1)?.refused(3))?;
-    check(after(&mut ledger, 0, 1, 1_000_000_001)?.refused(6))?;
-    check(after(&mut ledger, 999_999_999, 1, 2)?.refused(24))?;
-    check(after(&mut ledger, 999_999_999, 1, 1)?.accepted())?;
-    check(after(&mut ledger, 0, 2, 1_000_000_001)?.refused(3))
+    for case in &ENTRIES {
+        check(tried(&mut ledger, case)?.is(case.number))?;
+    }
+    Ok(())
 }
+
+// By another ledger's day. The last two meet two grounds, and the first is told.
+static BY_ANOTHER: [Entry; 3] = [
+    Entry {
+        metered: 5,
+        trader: 0,
+        litres: 1,
+        number: 20,
+    },
+    Entry {
+        metered: 1_000_000_000,
+        trader: 0,
+        litres: 1,
+        number: 20,
+    },
+    Entry {
+        metered: 5,
+        trader: 0,
+        litres: 1_000_000_001,
+        number: 6,
+    },
+];
 
 // This ledger's days are numbered one ahead of the other's.
 #[test]
 fn entries_by_another_ledger_s_day() -> Result<(), Fail> {
     let mut ledger = two_traders()?;
     let mut other = two_traders()?;
-    check(after(&mut ledger, 0, 0, 1)?.accepted())?;
-    check(by_another(&mut ledger, &mut other, 5, 0, 1)?.refused(20))?;
-    check(by_another(&mut ledger, &mut other, 1_000_000_000, 0, 1)?.refused(20))?;
-    check(by_another(&mut ledger, &mut other, 5, 0, 1_000_000_001)?.refused(6))
+    let ahead = opened(&mut ledger)?;
+    end_open(&mut ledger, ahead);
+    for case in &BY_ANOTHER {
+        check(by_another(&mut ledger, &mut other, case)?.is(case.number))?;
+    }
+    Ok(())
 }
 
 #[test]

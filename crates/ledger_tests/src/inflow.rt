@@ -11,12 +11,20 @@ use ledger::Ledger;
 use ledger::Refused;
 use std::test::*;
 
-// Takes an inflow on a day on which so much was metered for the first trader.
-fn inflow(ledger: &mut Ledger, metered: u64, litres: u64, rate: u32) -> Result<Outcome, Fail> {
+// An inflow after so much was metered, and the number of its refusal, 0 for none.
+struct Inflow {
+    metered: u64,
+    litres: u64,
+    rate: u32,
+    number: u8,
+}
+
+// Takes an inflow.
+fn taken(ledger: &mut Ledger, case: &Inflow) -> Result<Outcome, Fail> {
     let day = opened(ledger)?;
-    let _ = entry(ledger, &day, 0, metered);
+    let _ = entry(ledger, &day, 0, case.metered);
     let before = Seen::of(ledger);
-    match taking(ledger, day, litres, rate) {
+    match taking(ledger, day, case.litres, case.rate) {
         Ok(measured) => {
             end_measured(ledger, measured);
             Ok(Outcome::new(0, before, ledger))
@@ -50,25 +58,77 @@ fn by_another(
     }
 }
 
+// The loss is rounded down: 2 per cent of 387,755 are 7,755, and of 49 nothing. The last meets two grounds, and the first is told.
+static INFLOWS: [Inflow; 10] = [
+    Inflow {
+        metered: 0,
+        litres: 1_000_000_001,
+        rate: 0,
+        number: 6,
+    },
+    Inflow {
+        metered: 0,
+        litres: 1_000_000,
+        rate: 1_000_001,
+        number: 6,
+    },
+    Inflow {
+        metered: 0,
+        litres: 1_000_000_000,
+        rate: 1_000_000,
+        number: 0,
+    },
+    Inflow {
+        metered: 380_000,
+        litres: 379_999,
+        rate: 0,
+        number: 25,
+    },
+    Inflow {
+        metered: 380_000,
+        litres: 387_754,
+        rate: 20_000,
+        number: 25,
+    },
+    Inflow {
+        metered: 380_000,
+        litres: 387_755,
+        rate: 20_000,
+        number: 0,
+    },
+    Inflow {
+        metered: 49,
+        litres: 49,
+        rate: 20_000,
+        number: 0,
+    },
+    Inflow {
+        metered: 49,
+        litres: 50,
+        rate: 20_000,
+        number: 0,
+    },
+    Inflow {
+        metered: 50,
+        litres: 50,
+        rate: 20_000,
+        number: 25,
+    },
+    Inflow {
+        metered: 380_000,
+        litres: 1_000,
+        rate: 1_000_001,
+        number: 6,
+    },
+];
+
 #[test]
 fn inflows_refused() -> Result<(), Fail> {
     let mut ledger = two_traders()?;
-    check(inflow(&mut ledger, 0, 1_000_000_001, 0)?.refused(6))?;
-    check(inflow(&mut ledger, 0, 1_000_000, 1_000_001)?.refused(6))?;
-    check(inflow(&mut ledger, 380_000, 379_999, 0)?.refused(25))?;
-    check(inflow(&mut ledger, 380_000, 387_754, 20_000)?.refused(25))?;
-    check(inflow(&mut ledger, 380_000, 1_000_000_001, 1_000_000)?.refused(6))
-}
-
-// The loss is rounded down, so that an inflow may just cover it and what was metered.
-#[test]
-fn inflows_just_enough() -> Result<(), Fail> {
-    let mut ledger = two_traders()?;
-    check(inflow(&mut ledger, 380_000, 387_755, 20_000)?.accepted())?;
-    check(inflow(&mut ledger, 49, 50, 20_000)?.accepted())?;
-    check(inflow(&mut ledger, 50, 50, 20_000)?.refused(25))?;
-    check(inflow(&mut ledger, 49, 49, 20_000)?.accepted())?;
-    check(inflow(&mut ledger, 0, 1_000_000_000, 1_000_000)?.accepted())
+    for case in &INFLOWS {
+        check(taken(&mut ledger, case)?.is(case.number))?;
+    }
+    Ok(())
 }
 
 #[test]

@@ -16,7 +16,6 @@ use ledger::Point;
 use ledger::Refused;
 use profiles::EvenProfile;
 use profiles::EvenProfileTells;
-use refusals::RefusalDebug;
 use shares::Running;
 use shares::RunningRule;
 use std::test::*;

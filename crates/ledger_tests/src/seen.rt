@@ -34,13 +34,24 @@ impl Seen {
             ],
         }
     }
+
+    // The same but for the number of days opened.
+    pub(crate) fn with_opened(self, opened: u32) -> Seen {
+        Seen {
+            counts: Counts {
+                opened,
+                ..self.counts
+            },
+            ..self
+        }
+    }
 }
 
 // How a call was answered: the number of its refusal, 0 where it was accepted, and whether the ledger stayed as it was.
 #[derive(Clone, Copy)]
 pub(crate) struct Outcome {
-    number: u8,
-    unchanged: bool,
+    pub(crate) number: u8,
+    pub(crate) unchanged: bool,
 }
 
 impl Outcome {
@@ -55,9 +66,18 @@ impl Outcome {
         self.number == 0
     }
 
-    // A refusal has to leave the ledger as it was.
+    // As a refusal of that number has to be: the ledger stayed as it was.
     pub(crate) fn refused(self, number: u8) -> bool {
         self.number == number && self.unchanged
+    }
+
+    // Whether the call was refused by this number, or accepted where it is 0.
+    pub(crate) fn is(self, number: u8) -> bool {
+        if number == 0 {
+            self.accepted()
+        } else {
+            self.refused(number)
+        }
     }
 }
 
