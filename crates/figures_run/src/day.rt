@@ -1,6 +1,7 @@
 // A worked day on a new ledger.
 ghost use mathlib.Core.Path.{_≡_};
 ghost use mathlib.Core.Bool.{true};
+ghost use Rattle.std.specs.Vec.{made};
 ghost use Rattle.ledger.specs.Days.{isOpen, isMeasured};
 use crate::page::Page;
 use crate::refused::refused;
@@ -13,11 +14,15 @@ use ledger::Refused;
 use ledger::SharedOut;
 use profiles::EvenProfile;
 use profiles::EvenProfileTells;
+use profiles::Profile;
 use refusals::Refusal;
 use shares::ShareRule;
 use std::alloc::Global;
 use std::error::AnyError;
 use std::fmt;
+
+// 1 October 2009.
+const FIRST_DAY: u32 = 3_561;
 
 const INFLOW: u64 = 1_000_000;
 
@@ -28,14 +33,6 @@ const METERED: u64 = 380_000;
 const DAY_FACTOR: u32 = 764_445;
 
 const SCALE_FACTORS: [u32; 2] = [1_000_000, 500_000];
-
-// What the share-out of the day told, and wrote for each of the two points.
-#[derive(Clone, Copy)]
-struct Settled {
-    told: SharedOut,
-    uses: [u64; 2],
-    shares: [u64; 2],
-}
 
 // Ends a day that is this ledger's.
 fn end_open(ledger: &mut Ledger, day: OpenDay)
@@ -73,36 +70,73 @@ fn admit(ledger: &mut Ledger, points: &mut [Point]) -> Result<u32, Refusal> {
     Ok(trader)
 }
 
-// Opens the day, enters the trader's litres and takes the inflow.
-fn measure(ledger: &mut Ledger, trader: u32) -> Result<MeasuredDay, Refusal> {
-    let day = ledger.open(100, 0)?;
-    if let Err(why) = ledger.enter(&day, trader, METERED) {
-        end_open(ledger, day);
-        return Err(why);
+// Opens the day.
+fn measure(ledger: &mut Ledger, trader: u32) -> Result<MeasuredDay, Refusal>
+    ensures { λ r. ⌜ made r (λ day. isMeasured (now (ledger .exit) .book .phase) (day .number) ≡ true) ⌝ }
+{
+    match ledger.open(100, 0) {
+        Ok(day) => take_figures(ledger, day, trader),
+        Err(why) => Err(why),
+    }
+}
+
+// Enters the trader's litres and takes the inflow.
+fn take_figures(ledger: &mut Ledger, day: OpenDay, trader: u32) -> Result<MeasuredDay, Refusal>
+    requires { ⌜ isOpen (now ledger .book .phase) (day .number) ≡ true ⌝ }
+    ensures { λ r. ⌜ made r (λ measured. isMeasured (now (ledger .exit) .book .phase) (measured .number) ≡ true) ⌝ }
+{
+    match ledger.enter(&day, trader, METERED) {
+        Ok(()) => {}
+        Err(why) => {
+            end_open(ledger, day);
+            return Err(why);
+        }
     }
     match ledger.take_inflow(day, INFLOW, LOSS_RATE) {
         Ok(measured) => Ok(measured),
-        Err(Refused { why, token }) => {
+        Err(back) => {
+            let Refused { why, token } = back;
             end_open(ledger, token);
             Err(why)
         }
     }
 }
 
-fn settle<R: ShareRule>(rule: &R) -> Result<Settled, Refusal> {
-    let even = EvenProfile::new(DAY_FACTOR)?;
-    let mut ledger = Ledger::new(3_561);
-    let mut points = [Point::UNUSED; 2];
-    let mut uses = [0u64; 2];
-    let mut shares = [0u64; 2];
-    let trader = admit(&mut ledger, &mut points)?;
-    let day = measure(&mut ledger, trader)?;
-    match ledger.share_out(day, &mut points, &even, rule, &mut uses, &mut shares) {
-        Ok(told) => Ok(Settled { told, uses, shares }),
-        Err(Refused { why, token }) => {
-            end_measured(&mut ledger, token);
+// Shares a measured day out, and ends it where that is refused.
+fn share_day<P: Profile, R: ShareRule>(
+    ledger: &mut Ledger,
+    day: MeasuredDay,
+    points: &mut [Point],
+    profile: &P,
+    rule: &R,
+    uses: &mut [u64],
+    shares: &mut [u64],
+) -> Result<SharedOut, Refusal>
+    requires { ⌜ isMeasured (now ledger .book .phase) (day .number) ≡ true ⌝ }
+{
+    match ledger.share_out(day, points, profile, rule, uses, shares) {
+        Ok(told) => Ok(told),
+        Err(back) => {
+            let Refused { why, token } = back;
+            end_measured(ledger, token);
             Err(why)
         }
+    }
+}
+
+// The whole day. The points' profile consumptions and shares are written over the two work sheets.
+fn settle<R: ShareRule>(
+    rule: &R,
+    uses: &mut [u64],
+    shares: &mut [u64],
+) -> Result<SharedOut, Refusal> {
+    let even = EvenProfile::new(DAY_FACTOR)?;
+    let mut ledger = Ledger::new(FIRST_DAY);
+    let mut points = [Point::UNUSED; 2];
+    let trader = admit(&mut ledger, &mut points)?;
+    match measure(&mut ledger, trader) {
+        Ok(day) => share_day(&mut ledger, day, &mut points, &even, rule, uses, shares),
+        Err(why) => Err(why),
     }
 }
 
@@ -130,8 +164,10 @@ pub(crate) fn day_lines<R: ShareRule>(
     name: &str,
     rule: &R,
 ) -> Result<(), AnyError> {
-    match settle(rule) {
-        Ok(Settled { told, uses, shares }) => {
+    let mut uses = [0u64; 2];
+    let mut shares = [0u64; 2];
+    match settle(rule, &mut uses, &mut shares) {
+        Ok(told) => {
             day_line(page, name, told)?;
             point_line(page, name, SCALE_FACTORS[0], uses[0], shares[0])?;
             point_line(page, name, SCALE_FACTORS[1], uses[1], shares[1])?;

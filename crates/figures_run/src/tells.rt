@@ -16,6 +16,9 @@ const COLD: [i16; 4] = [-400, -81, -80, -79];
 
 const WARM: [i16; 4] = [299, 300, 301, 500];
 
+// From -8.0 to 29.8 degrees in steps of seven tenths.
+const SEVENTHS: u16 = 55;
+
 const LAYER_TEMPERATURES: [i16; 8] = [-100, -80, -33, 0, 105, 299, 300, 301];
 
 // The segment whose day factors the layer scales.
@@ -27,8 +30,8 @@ const SEASON_NUMBERS: u64 = 1524;
 // Both ends, and each seventh tenth of the sheet between them.
 fn temperatures(heap: Global) -> Result<Vec<i16>, AllocError> {
     let mut all = Vec::from_slice(heap, &COLD)?;
-    for t in (-80i16..=300).step_by(7) {
-        all.push(t)?;
+    for k in 0..SEVENTHS {
+        all.push((7 * k) as i16 - 80)?;
     }
     all.extend_from_slice(&WARM)?;
     Ok(all)
