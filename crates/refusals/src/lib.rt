@@ -68,22 +68,30 @@ impl Refusal {
     // The refusal in plain words.
     fn words(self) -> &'static str {
         match self {
-            Refusal::PointSheetLength => "the point sheet is shorter than the points admitted, or has more than 4096 places",
+            Refusal::PointSheetLength =>
+                "the point sheet is shorter than the points admitted, or has more than 4096 places",
             Refusal::WorkSheetLength => "a work sheet is shorter than the points admitted",
             Refusal::NoSuchTrader => "no such trader",
             Refusal::NoSuchPoint => "no such point",
-            Refusal::Weather => "the temperature is outside -400 to 500 tenths, or the season outside 0 to 3",
-            Refusal::Litres => "more than 1000000000 litres, or a loss rate above 1000000 millionths",
+            Refusal::Weather =>
+                "the temperature is outside -400 to 500 tenths, or the season outside 0 to 3",
+            Refusal::Litres =>
+                "more than 1000000000 litres, or a loss rate above 1000000 millionths",
             Refusal::Particulars => "a point's particulars, a segment or a reading out of range",
-            Refusal::ProfileSheet => "a profile sheet of the wrong length, or a value in it too large",
+            Refusal::ProfileSheet =>
+                "a profile sheet of the wrong length, or a value in it too large",
             Refusal::NoSuchDay => "no such day",
             Refusal::Energy => "an energy above 1000000000000 MJ, or a rate above 1000000",
-            Refusal::ForeignSheet => "the point sheet is another ledger's: a point in it is out of its ranges",
+            Refusal::ForeignSheet =>
+                "the point sheet is another ledger's: a point in it is out of its ranges",
             Refusal::NotRunning => "not this ledger's running day in that phase",
-            Refusal::NotOpenSlip => "not its point's open slip, or as many bookings as readings already",
+            Refusal::NotOpenSlip =>
+                "not its point's open slip, or as many bookings as readings already",
             Refusal::DayRunning => "a day is running",
-            Refusal::NoMoreDays => "no more days: 4000 shared out, 1000000 opened, or past 31 December 2099",
-            Refusal::TooMuchMetered => "all traders' metered litres of the day would pass 1000000000",
+            Refusal::NoMoreDays =>
+                "no more days: 4000 shared out, 1000000 opened, or past 31 December 2099",
+            Refusal::TooMuchMetered =>
+                "all traders' metered litres of the day would pass 1000000000",
             Refusal::InflowTooSmall => "loss and metered litres exceed the inflow",
             Refusal::NoPlace => "no place for another trader or point",
             Refusal::SlipOpen => "a slip of this point is open",

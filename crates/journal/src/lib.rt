@@ -1,0 +1,4 @@
+// The text of a journal: lines, words, numbers and the calls that they say.
+pub mod fault;
+pub mod number;
+pub mod words;
