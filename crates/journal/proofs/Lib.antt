@@ -1,3 +1,5 @@
 mod Values
 mod Cuts
 mod Finds
+mod Eachs
+mod Texts

@@ -1,3 +1,4 @@
 pub mod Words
-pub mod Numbers
 pub mod Vocabulary
+pub mod Numbers
+pub mod Calls

@@ -1,13 +1,14 @@
 -- How a line of text is cut into words.
-use mathlib.Core.Bool.{Bool, true, false, cond, not, _||_}
+use mathlib.Core.Bool.{Bool, true, false, cond, not, _||_, _&&_}
 use mathlib.Core.List.{List, [], _∷_, map}
 use Prim.Native.Nat.{ℕ}
 use denote.Ref.{RefT, now}
-use lib.Dec.{eqb}
+use lib.Dec.{eqb, leb, ltb}
 use lib.ListN.{take, drop}
+use Rattle.std.specs.Text.{asciiLetter, asciiDigit}
 use Rattle.std.specs.shelf.Lists.{leading}
 use Rattle.journal.specs.declared.words.Class.{Class}
-use Rattle.journal.specs.declared.words.Class.the-variants.{Blank, Ink, Text}
+use Rattle.journal.specs.declared.words.Class.the-variants.{Blank, Ink, Text, Name, File}
 
 -- space, tab and carriage return stand between words
 abbrev pub blank : ℕ → Bool
@@ -18,6 +19,8 @@ abbrev pub belongs : Class → ℕ → Bool
 belongs Blank b = blank b
 belongs Ink b = not (blank b)
 belongs Text b = not (eqb b 35)
+belongs Name b = leb 128 b || (asciiLetter b || (asciiDigit b || (eqb b 45 || (eqb b 95 || eqb b 46))))
+belongs File b = ltb 32 b && not (eqb b 127)
 
 -- what stands before the comment
 abbrev pub uncommentedOf : List ℕ → List ℕ

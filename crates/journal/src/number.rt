@@ -6,7 +6,8 @@ ghost use lib.ListN.{length};
 ghost use Rattle.std.specs.Options.{Cases};
 ghost use Rattle.std.specs.Reads.{value};
 ghost use Rattle.std.specs.shelf.Text.{allDigits};
-ghost use Rattle.journal.specs.Numbers.{numberOf};
+ghost use lib.IntN.{pos, negℤ};
+ghost use Rattle.journal.specs.Numbers.{numberOf, magnitudeOf, tenthsOf, above, below};
 use crate::fault::Fault;
 
 fn all_digits(word: &[u8]) -> bool
@@ -46,5 +47,54 @@ pub fn number(word: &[u8], limit: u64) -> Result<u64, Fault>
     match value_of(word) {
         Some(n) if n <= limit => Ok(n),
         _ => Err(Fault::TooLarge),
+    }
+}
+
+// Degrees with at most one decimal, in tenths and without a sign.
+fn magnitude(word: &[u8]) -> Result<u64, Fault>
+    ensures { λ r. ⌜ r ≡ magnitudeOf (now (word .entry)) ⌝ }
+{
+    let n = word.len();
+    if n >= 2 && word[n - 2] == b'.' {
+        let (whole, _point) = word.split_at(n - 2);
+        let (_front, last) = word.split_at(n - 1);
+        let degrees = number(whole, 3276)?;
+        let tenth = number(last, 9)?;
+        Ok(degrees * 10 + tenth)
+    } else {
+        let degrees = number(word, 3276)?;
+        Ok(degrees * 10)
+    }
+}
+
+fn raised(tenths: u64) -> Result<i16, Fault>
+    ensures { λ r. ⌜ r ≡ above tenths ⌝ }
+{
+    if tenths <= 32767 {
+        Ok(tenths as i16)
+    } else {
+        Err(Fault::TooLarge)
+    }
+}
+
+fn lowered(tenths: u64) -> Result<i16, Fault>
+    ensures { λ r. ⌜ r ≡ below tenths ⌝ }
+{
+    if tenths <= 32768 {
+        Ok((0 - tenths as i32) as i16)
+    } else {
+        Err(Fault::TooLarge)
+    }
+}
+
+// A temperature in tenths of a degree.
+pub fn tenths(word: &[u8]) -> Result<i16, Fault>
+    ensures { λ r. ⌜ r ≡ tenthsOf (now (word .entry)) ⌝ }
+{
+    if !word.is_empty() && word[0] == b'-' {
+        let (_minus, rest) = word.split_at(1);
+        lowered(magnitude(rest)?)
+    } else {
+        raised(magnitude(word)?)
     }
 }

@@ -9,12 +9,14 @@ ghost use Rattle.std.specs.shelf.Lists.{leading};
 ghost use Rattle.journal.specs.Words.{blank, belongs, uncommentedOf, firstOf, restOf, textsOf, wordsOf};
 use std::alloc::AllocError;
 
-// The bytes that the cutting of a line tells apart.
+// Classes of bytes: blanks stand between words, ink is what words are made of, text is what stands before a comment.
 #[derive(Clone, Copy)]
 pub enum Class {
     Blank,
     Ink,
     Text,
+    Name,
+    File,
 }
 
 fn is_blank(b: u8) -> bool
@@ -23,8 +25,14 @@ fn is_blank(b: u8) -> bool
     b == b' ' || b == b'\t' || b == b'\r'
 }
 
+// Letters, digits, a few signs, and whatever is not ASCII.
+fn is_name(b: u8) -> bool
+    ensures { λ r. ⌜ r ≡ belongs Class.Name b ⌝ }
+{
+    b >= 128 || b.is_ascii_alphanumeric() || b == b'-' || b == b'_' || b == b'.'
+}
+
 impl Class {
-    // Blanks stand between words, ink is in them, and text is what stands before a comment.
     fn has(self, b: u8) -> bool
         ensures { λ r. ⌜ r ≡ belongs self b ⌝ }
     {
@@ -32,12 +40,14 @@ impl Class {
             Class::Blank => is_blank(b),
             Class::Ink => !is_blank(b),
             Class::Text => b != b'#',
+            Class::Name => is_name(b),
+            Class::File => b > 32 && b != 127,
         }
     }
 }
 
 // How many bytes at the front belong to a class.
-fn front(text: &[u8], class: Class) -> usize
+pub fn front(text: &[u8], class: Class) -> usize
     ensures value { λ r. ⌜ r ≡ leading (belongs class) (now (text .entry)) ⌝ }
     ensures bound { λ r. ⌜ r ≤ length (now (text .entry)) ⌝ }
 {
