@@ -1,0 +1,4 @@
+pub mod Rows
+pub mod Years
+pub mod Dates
+pub mod Parts

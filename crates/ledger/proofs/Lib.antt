@@ -1,0 +1,11 @@
+pub mod Grounds
+pub mod Accepted
+pub mod Rows
+pub mod Traders
+pub mod Places
+pub mod Totals
+pub mod Keep
+pub mod Loops
+pub mod Ranges
+pub mod Crediting
+pub mod ShareOut

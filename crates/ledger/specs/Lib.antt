@@ -1,0 +1,7 @@
+pub mod Limits
+pub mod Rows
+pub mod Accounts
+pub mod Grounds
+pub mod Days
+pub mod Sharing
+pub mod History

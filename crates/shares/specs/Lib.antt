@@ -1,0 +1,2 @@
+pub mod Fair
+pub mod Rules

@@ -1,0 +1,3 @@
+pub mod Settlements
+pub mod Quantities
+pub mod Law
