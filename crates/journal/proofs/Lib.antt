@@ -3,3 +3,4 @@ mod Cuts
 mod Finds
 mod Eachs
 mod Texts
+mod Decimals

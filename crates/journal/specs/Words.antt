@@ -8,7 +8,7 @@ use lib.ListN.{take, drop}
 use Rattle.std.specs.Text.{asciiLetter, asciiDigit}
 use Rattle.std.specs.shelf.Lists.{leading}
 use Rattle.journal.specs.declared.words.Class.{Class}
-use Rattle.journal.specs.declared.words.Class.the-variants.{Blank, Ink, Text, Name, File}
+use Rattle.journal.specs.declared.words.Class.the-variants.{Blank, Ink, Text, Name, File, Line}
 
 -- space, tab and carriage return stand between words
 abbrev pub blank : ℕ → Bool
@@ -21,6 +21,14 @@ belongs Ink b = not (blank b)
 belongs Text b = not (eqb b 35)
 belongs Name b = leb 128 b || (asciiLetter b || (asciiDigit b || (eqb b 45 || (eqb b 95 || eqb b 46))))
 belongs File b = ltb 32 b && not (eqb b 127)
+belongs Line b = not (eqb b 10)
+
+-- the first line, and what stands behind its line feed
+abbrev pub lineOf : List ℕ → List ℕ
+lineOf text = take (leading (belongs Line) text) text
+
+abbrev pub behindLine : List ℕ → List ℕ
+behindLine text = drop 1 (drop (leading (belongs Line) text) text)
 
 -- what stands before the comment
 abbrev pub uncommentedOf : List ℕ → List ℕ

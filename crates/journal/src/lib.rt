@@ -2,5 +2,6 @@
 pub mod call;
 pub mod fault;
 pub mod kind;
+pub mod lines;
 pub mod number;
 pub mod words;

@@ -1,5 +1,9 @@
 // Numbers in decimal digits.
+ghost use mathlib.Core.List.{_++_};
 ghost use mathlib.Core.Path.{_≡_};
+ghost use Rattle.std.specs.Of.Vec.{vec-items};
+ghost use Rattle.std.specs.Vec.{made};
+ghost use Rattle.std.specs.Written.{decimal};
 ghost use mathlib.Core.Bool.{true};
 ghost use Prim.Native.Nat.{ℕ, _+_, _≤_, _^_};
 ghost use lib.ListN.{length};
@@ -9,6 +13,7 @@ ghost use Rattle.std.specs.shelf.Text.{allDigits};
 ghost use lib.IntN.{pos, negℤ};
 ghost use Rattle.journal.specs.Numbers.{numberOf, magnitudeOf, tenthsOf, above, below};
 use crate::fault::Fault;
+use std::alloc::AllocError;
 
 fn all_digits(word: &[u8]) -> bool
     ensures { λ r. ⌜ r ≡ allDigits (now (word .entry)) ⌝ }
@@ -97,4 +102,22 @@ pub fn tenths(word: &[u8]) -> Result<i16, Fault>
     } else {
         raised(magnitude(word)?)
     }
+}
+
+// Writes a number in decimal digits behind what is there.
+pub fn put_number(out: &mut Vec<u8>, n: u64) -> Result<(), AllocError>
+    ensures { λ r. ⌜ made r (λ _. vec-items (now (out .exit)) ≡ vec-items (now (out .entry)) ++ decimal n) ⌝ }
+{
+    let mut digits = [0u8; 20];
+    let mut at = 20;
+    let mut left = n;
+    while left >= 10 {
+        at -= 1;
+        digits[at] = b'0' + (left % 10) as u8;
+        left /= 10;
+    }
+    at -= 1;
+    digits[at] = b'0' + left as u8;
+    let (_unused, written) = digits.split_at(at);
+    out.extend_from_slice(written)
 }

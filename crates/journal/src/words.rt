@@ -9,7 +9,8 @@ ghost use Rattle.std.specs.shelf.Lists.{leading};
 ghost use Rattle.journal.specs.Words.{blank, belongs, uncommentedOf, firstOf, restOf, textsOf, wordsOf};
 use std::alloc::AllocError;
 
-// Classes of bytes: blanks stand between words, ink is what words are made of, text is what stands before a comment.
+// Classes of bytes: blanks stand between words, ink is what words are made of, text is what stands before a comment,
+// and a line goes to its line feed.
 #[derive(Clone, Copy)]
 pub enum Class {
     Blank,
@@ -17,6 +18,7 @@ pub enum Class {
     Text,
     Name,
     File,
+    Line,
 }
 
 fn is_blank(b: u8) -> bool
@@ -42,6 +44,7 @@ impl Class {
             Class::Text => b != b'#',
             Class::Name => is_name(b),
             Class::File => b > 32 && b != 127,
+            Class::Line => b != b'\n',
         }
     }
 }
