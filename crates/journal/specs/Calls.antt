@@ -41,6 +41,10 @@ pub data Said : Type 0 where
   share : List ℕ → Rule → Said
   abandon : Said
   quantity : ℕ → Said
+  read : ℕ → ℕ → Said
+  book : ℕ → Said
+  hand-over : ℕ → ℕ → Said
+  withdraw : ℕ → Said
 
 -- what a call says, wherever its names lie
 abbrev pub said : Call → Said
@@ -57,6 +61,10 @@ said (call.Inflow l r) = inflow l r
 said (call.Share p r) = share (p .now) r
 said call.Abandon = abandon
 said (call.Quantity t) = quantity t
+said (call.Read p r) = read p r
+said (call.Book p) = book p
+said (call.HandOver p t) = hand-over p t
+said (call.Withdraw p) = withdraw p
 
 abbrev pub heard : Result Call Fault → Result Said Fault
 heard (Ok c) = Ok (said c)
@@ -120,6 +128,10 @@ formOf of.Inflow ws = made (numbersOf of.Inflow (max64 ∷ max32 ∷ []) ws) (λ
 formOf of.Share ws = sized of.Share 2 ws (some NotRule (ruleIn (at ws 1)) (λ r. Ok (share (at ws 0) r)))
 formOf of.Abandon ws = sized of.Abandon 0 ws (Ok abandon)
 formOf of.Quantity ws = made (numbersOf of.Quantity (max32 ∷ []) ws) (λ ns. Ok (quantity (getD ns 0 0)))
+formOf of.Read ws = made (numbersOf of.Read (max32 ∷ max32 ∷ []) ws) (λ ns. Ok (read (getD ns 0 0) (getD ns 1 0)))
+formOf of.Book ws = made (numbersOf of.Book (max32 ∷ []) ws) (λ ns. Ok (book (getD ns 0 0)))
+formOf of.HandOver ws = made (numbersOf of.HandOver (max32 ∷ max32 ∷ []) ws) (λ ns. Ok (hand-over (getD ns 0 0) (getD ns 1 0)))
+formOf of.Withdraw ws = made (numbersOf of.Withdraw (max32 ∷ []) ws) (λ ns. Ok (withdraw (getD ns 0 0)))
 
 -- the call that the words of a line say: none where there are no words
 abbrev pub callOf : List (List ℕ) → Result (Option Said) Fault

@@ -7,7 +7,7 @@ use Rattle.std.specs.shelf.Text.{sameBytes}
 use Rattle.std.specs.declared.option.Option.{Option}
 use Rattle.std.specs.declared.option.Option.the-variants.{Some, None}
 use Rattle.journal.specs.declared.kind.Kind.{Kind}
-use Rattle.journal.specs.declared.kind.Kind.the-variants.{Ledger, Sheet, Profile, Trader, Point, Open, Enter, Inflow, Share, Abandon, Quantity}
+use Rattle.journal.specs.declared.kind.Kind.the-variants.{Ledger, Sheet, Profile, Trader, Point, Open, Enter, Inflow, Share, Abandon, Quantity, Read, Book, HandOver, Withdraw}
 use Rattle.journal.specs.declared.kind.Rule.{Rule}
 use Rattle.journal.specs.declared.kind.Rule.the-variants.{Running, Largest}
 use Rattle.journal.specs.declared.kind.Shape.{Shape}
@@ -26,6 +26,10 @@ kindWord Inflow = codes "inflow"
 kindWord Share = codes "share"
 kindWord Abandon = codes "abandon"
 kindWord Quantity = codes "quantity"
+kindWord Read = codes "read"
+kindWord Book = codes "book"
+kindWord HandOver = codes "hand-over"
+kindWord Withdraw = codes "withdraw"
 
 abbrev pub shapeWord : Shape → List ℕ
 shapeWord Table = codes "table"
@@ -43,7 +47,7 @@ named f (x ∷ xs) word = cond (sameBytes word (f x)) (Some x) (named f xs word)
 
 abbrev pub kindIn : List ℕ → Option Kind
 kindIn word =
-    named kindWord (Ledger ∷ Sheet ∷ Profile ∷ Trader ∷ Point ∷ Open ∷ Enter ∷ Inflow ∷ Share ∷ Abandon ∷ Quantity ∷ []) word
+    named kindWord (Ledger ∷ Sheet ∷ Profile ∷ Trader ∷ Point ∷ Open ∷ Enter ∷ Inflow ∷ Share ∷ Abandon ∷ Quantity ∷ Read ∷ Book ∷ HandOver ∷ Withdraw ∷ []) word
 
 abbrev pub shapeIn : List ℕ → Option Shape
 shapeIn word = named shapeWord (Table ∷ Even ∷ Season ∷ []) word

@@ -73,6 +73,20 @@ pub enum Call<'a> {
     Quantity {
         trader: u32,
     },
+    Read {
+        point: u32,
+        reading: u32,
+    },
+    Book {
+        point: u32,
+    },
+    HandOver {
+        point: u32,
+        trader: u32,
+    },
+    Withdraw {
+        point: u32,
+    },
 }
 
 const MAX32: u64 = 4_294_967_295;
@@ -173,6 +187,44 @@ fn quantity<'a>(args: &[&'a [u8]]) -> Result<Call<'a>, Fault>
     let [trader] = numbers(Kind::Quantity, args, [MAX32])?;
     Ok(Call::Quantity {
         trader: trader as u32,
+    })
+}
+
+fn reading<'a>(args: &[&'a [u8]]) -> Result<Call<'a>, Fault>
+    ensures { λ r. ⌜ heard r ≡ formOf of.Read (textsOf (now (args .entry))) ⌝ }
+{
+    let [point, reading] = numbers(Kind::Read, args, [MAX32, MAX32])?;
+    Ok(Call::Read {
+        point: point as u32,
+        reading: reading as u32,
+    })
+}
+
+fn booking<'a>(args: &[&'a [u8]]) -> Result<Call<'a>, Fault>
+    ensures { λ r. ⌜ heard r ≡ formOf of.Book (textsOf (now (args .entry))) ⌝ }
+{
+    let [point] = numbers(Kind::Book, args, [MAX32])?;
+    Ok(Call::Book {
+        point: point as u32,
+    })
+}
+
+fn hand_over<'a>(args: &[&'a [u8]]) -> Result<Call<'a>, Fault>
+    ensures { λ r. ⌜ heard r ≡ formOf of.HandOver (textsOf (now (args .entry))) ⌝ }
+{
+    let [point, trader] = numbers(Kind::HandOver, args, [MAX32, MAX32])?;
+    Ok(Call::HandOver {
+        point: point as u32,
+        trader: trader as u32,
+    })
+}
+
+fn withdrawal<'a>(args: &[&'a [u8]]) -> Result<Call<'a>, Fault>
+    ensures { λ r. ⌜ heard r ≡ formOf of.Withdraw (textsOf (now (args .entry))) ⌝ }
+{
+    let [point] = numbers(Kind::Withdraw, args, [MAX32])?;
+    Ok(Call::Withdraw {
+        point: point as u32,
     })
 }
 
@@ -313,6 +365,10 @@ fn formed<'a>(kind: Kind, args: &[&'a [u8]]) -> Result<Call<'a>, Fault>
         Kind::Share => share(args),
         Kind::Abandon => abandon(args),
         Kind::Quantity => quantity(args),
+        Kind::Read => reading(args),
+        Kind::Book => booking(args),
+        Kind::HandOver => hand_over(args),
+        Kind::Withdraw => withdrawal(args),
     }
 }
 

@@ -33,6 +33,10 @@ fn form(kind: Kind) -> &'static str {
         Kind::Share => "share PROFILE running | share PROFILE largest",
         Kind::Abandon => "abandon",
         Kind::Quantity => "quantity TRADER",
+        Kind::Read => "read POINT READING",
+        Kind::Book => "book POINT",
+        Kind::HandOver => "hand-over POINT TRADER",
+        Kind::Withdraw => "withdraw POINT",
     }
 }
 

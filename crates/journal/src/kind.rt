@@ -19,6 +19,10 @@ pub enum Kind {
     Share,
     Abandon,
     Quantity,
+    Read,
+    Book,
+    HandOver,
+    Withdraw,
 }
 
 // How a profile is made.
@@ -60,6 +64,10 @@ pub impl Worded for Kind as KindWorded {
             Kind::Share => "share",
             Kind::Abandon => "abandon",
             Kind::Quantity => "quantity",
+            Kind::Read => "read",
+            Kind::Book => "book",
+            Kind::HandOver => "hand-over",
+            Kind::Withdraw => "withdraw",
         }
     }
 }
@@ -107,7 +115,7 @@ fn find<W: Worded + Copy>(all: &[W], word: &[u8]) -> Option<W>
 }
 
 impl Kind {
-    const ALL: [Kind; 11] = [
+    const ALL: [Kind; 15] = [
         Kind::Ledger,
         Kind::Sheet,
         Kind::Profile,
@@ -119,6 +127,10 @@ impl Kind {
         Kind::Share,
         Kind::Abandon,
         Kind::Quantity,
+        Kind::Read,
+        Kind::Book,
+        Kind::HandOver,
+        Kind::Withdraw,
     ];
 
     // The call that a first word stands for.
