@@ -428,8 +428,10 @@ impl Player {
         report.closing("loss")?;
         report.number(all.loss)?;
         report.end()?;
-        for (trader, name) in self.traders.iter().enumerate() {
-            self.tell_trader(ledger, trader as u32, name.as_slice(), report)?;
+        let mut trader: u32 = 0;
+        for name in self.traders.iter() {
+            self.tell_trader(ledger, trader, name.as_slice(), report)?;
+            trader = trader.saturating_add(1);
         }
         report.closing("correction")?;
         report.signed(all.correction as i128)?;

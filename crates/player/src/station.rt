@@ -165,7 +165,9 @@ impl Station {
     }
 
     // Ends the running day: its number by openings.
-    pub fn abandon(self) -> (Station, Result<u32, Refusal>) {
+    pub fn abandon(self) -> (Station, Result<u32, Refusal>)
+        ensures idle { λ r. ⌜ r .0 .running ≡ Running.Idle ⌝ }
+    {
         let Station { mut ledger, running } = self;
         match running {
             Running::Idle => {
@@ -195,7 +197,7 @@ impl Station {
         }
     }
 
-    // The ledger, once no day is running: `None` hands a running day's station back.
+    // The ledger, its running day ended.
     pub fn close(self) -> Ledger {
         let (station, _) = self.abandon();
         let Station { ledger, running } = station;

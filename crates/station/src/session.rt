@@ -18,6 +18,7 @@ use std::io::Write;
 use std::path::Path;
 
 // Where the playing ended, and why; `Halt::None` at the journal's end.
+#[derive(Clone, Copy)]
 pub struct Played<'a> {
     pub line: u64,
     pub text: &'a [u8],
