@@ -1,14 +1,12 @@
 -- Dates and their numbers: what a date that is a day has, and that its number is its own.
-use mathlib.Core.Path.{_≡_, refl, sym, ap, _∙_}
-use mathlib.Core.Bool.{Bool, true, false, cond, _&&_}
+use mathlib.Core.Path.{_≡_, refl}
+use mathlib.Core.Bool.{Bool, true, false, cond}
 use Prim.Native.Nat.{ℕ, _+_, _-_, _≤_, _<_}
 use native.Mathlib.Omega.{arith}
-use lib.Dec.{leb}
-use Rattle.std.specs.declared.result.Result.{Result}
 use Rattle.std.specs.declared.result.Result.the-variants.{Ok, Err}
 use Rattle.std.proofs.shelf.Tests.{and-parts, and-from, leb-true, le-leb}
 use Rattle.refusals.specs.declared.Refusal.{Refusal}
-use Rattle.calendar.specs.Days.{isLeap, monthLength, daysBeforeMonth, daysBeforeYear, lengthOfMonth, isDay, daysBefore, dayOf, Dated}
+use Rattle.calendar.specs.Days.{isLeap, monthLength, daysBeforeMonth, daysBeforeYear, lengthOfMonth, isDay, daysBefore, Dated}
 use Rattle.calendar.specs.declared.date.Date.{Date}
 use Rattle.calendar.proofs.Years.{in-year, in-range, one-day}
 

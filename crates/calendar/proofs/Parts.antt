@@ -1,20 +1,18 @@
 -- A whole number spread over n days by rounding down what is due so far: the days sum to it and are nearly even.
-use mathlib.Core.Path.{_≡_, refl, sym, ap, _∙_}
-use mathlib.Core.Bool.{Bool, true, false, cond}
+use mathlib.Core.Path.{_≡_, sym, ap, _∙_}
+use mathlib.Core.Bool.{true, false, cond}
 use Prim.Native.Nat.{ℕ, zero, suc, _+_, _-_, _*_, _/_, _≤_, _<_}
 use native.Mathlib.Nat.{div-mul-le-self, le-trans, le-div-iff-mul-le, div-lt-iff-lt-mul, lt-div-mul-add, mul-le-mul-left, mul-suc, mul-zero, zero-div, mul-div-cancel, add-mul}
 use native.Mathlib.Omega.{arith}
 use lib.Dec.{leb}
-use Rattle.std.specs.declared.result.Result.{Result}
 use Rattle.std.specs.declared.result.Result.the-variants.{Ok, Err}
 use Rattle.std.specs.Results.{valueOr}
 use Rattle.std.proofs.shelf.Tests.{le-leb}
-use Rattle.refusals.specs.declared.Refusal.{Refusal}
 use Rattle.refusals.specs.declared.Refusal.the-variants.{Litres, NoSuchDay}
 use Rattle.calendar.specs.Days.{isDay, lengthOfMonth}
 use Rattle.calendar.specs.FlatRate.{part, flatRate, on, upTo, Whole, Level}
 use Rattle.calendar.specs.declared.date.Date.{Date}
-use Rattle.calendar.proofs.Dates.{Day, day, is-day, given}
+use Rattle.calendar.proofs.Dates.{day, is-day, given}
 
 pub div-le : {a b n : ℕ} → 0 < n → a ≤ b → a / n ≤ b / n
 div-le {a} {b} {n} h le = le-div-iff-mul-le h .1 (le-trans (div-mul-le-self a n) le)

@@ -1,7 +1,7 @@
 -- The days of the years 2000 to 2099, by counting: day 0 is 1 January 2000.
 use mathlib.Core.Path.{_≡_}
 use mathlib.Core.Bool.{Bool, true, false, cond, _&&_}
-use mathlib.Core.List.{List, [], _∷_}
+use mathlib.Core.List.{[], _∷_}
 use Prim.Native.Nat.{ℕ, zero, suc, _+_, _-_, _%_}
 use lib.Dec.{eqb, leb}
 use lib.ListN.{getD}

@@ -1,6 +1,6 @@
 -- A flat-rate customer's litres, day by day.
 use mathlib.Core.Path.{_≡_}
-use mathlib.Core.Bool.{Bool, true, false, cond}
+use mathlib.Core.Bool.{true, cond}
 use Prim.Native.Nat.{ℕ, zero, suc, _+_, _-_, _*_, _/_, _≤_}
 use lib.Dec.{leb}
 use Rattle.std.specs.declared.result.Result.{Result}

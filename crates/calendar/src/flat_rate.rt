@@ -1,7 +1,6 @@
 // The days of a customer who is billed the same each month.
 ghost use mathlib.Core.Path.{_≡_};
-ghost use mathlib.Core.Bool.{true};
-ghost use Prim.Native.Nat.{ℕ, _-_, _*_, _/_, _<_, _≤_};
+ghost use Prim.Native.Nat.{_<_, _≤_};
 ghost use Rattle.calendar.specs.FlatRate.{part, flatRate, Whole, Level};
 use super::date::Date;
 use refusals::Refusal;

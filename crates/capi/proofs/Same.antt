@@ -1,5 +1,5 @@
 -- Two dates that are the same, or both no day, are told alike.
-use mathlib.Core.Path.{_≡_, ap, sym, _∙_}
+use mathlib.Core.Path.{_≡_, ap}
 use mathlib.Core.Logic.{⊎-elim}
 use Prim.Native.Nat.{ℕ}
 use Rattle.calendar.specs.Days.{dayOf}

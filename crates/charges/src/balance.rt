@@ -1,7 +1,7 @@
 // The charge on the balance of a source and its consumption, without offers and with them.
 ghost use mathlib.Core.Path.{_≡_};
 ghost use Prim.Native.Nat.{_+_, _≤_};
-ghost use Rattle.charges.specs.Rule.{apart, tolerance, balanceInside, balanceDue, usable, offeredInside, offeredDue};
+ghost use Rattle.charges.specs.Rule.{apart, balanceInside, balanceDue, usable, offeredInside, offeredDue};
 use super::megajoules::Megajoules;
 use super::rules::Charge;
 use super::rules::Tolerance;

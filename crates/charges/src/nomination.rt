@@ -1,6 +1,4 @@
 // The charge on what was drawn beside the nomination.
-ghost use mathlib.Core.Path.{_≡_};
-ghost use Prim.Native.Nat.{_≤_};
 ghost use Rattle.charges.specs.Rule.{apart, nominationInside, nominationDue};
 use super::megajoules::Megajoules;
 use super::rules::Charge;

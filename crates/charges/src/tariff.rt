@@ -1,7 +1,7 @@
 // A tariff: its rate, and how often that was set.
 ghost use mathlib.Core.Path.{_≡_};
 ghost use mathlib.Core.Bool.{true};
-ghost use Prim.Native.Nat.{ℕ, _+_, _*_, _≤_, _<_, min};
+ghost use Prim.Native.Nat.{_*_, _≤_, _<_};
 ghost use Rattle.std.specs.Results.{Cases};
 ghost use Rattle.refusals.specs.declared.Refusal.the-variants.{Energy};
 ghost use Rattle.charges.specs.Settings.{counted};

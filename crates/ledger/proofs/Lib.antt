@@ -1,11 +1,14 @@
 pub mod Grounds
 pub mod Accepted
+pub mod AcceptedReadings
 pub mod Rows
+pub mod Ranges
 pub mod Traders
 pub mod Places
 pub mod Totals
+pub mod Corrections
 pub mod Keep
+pub mod KeepReadings
 pub mod Loops
-pub mod Ranges
 pub mod Crediting
 pub mod ShareOut

@@ -17,8 +17,10 @@ use Rattle.ledger.specs.declared.day.Refused.{Refused}
 use Rattle.ledger.specs.declared.day.SharedOut.{SharedOut}
 use Rattle.ledger.specs.declared.point.Particulars.{Particulars}
 use Rattle.ledger.specs.declared.point.Point.{Point}
+use Rattle.ledger.specs.declared.slip.Slip.{Slip}
 use Rattle.ledger.specs.Accounts.{newBook}
 use Rattle.ledger.specs.Days.{admitAnswer, admitBook, pointAnswer, pointBook, pointSheet, openAnswer, openBook, enterAnswer, enterBook, inflowAnswer, inflowBook, abandonOpenAnswer, abandonOpenBook, abandonMeasuredAnswer, abandonMeasuredBook}
+use Rattle.ledger.specs.Readings.{readAnswer, readBook, readSheet, bookAnswer, bookBook, bookSheet, handAnswer, handBook, handSheet, withdrawAnswer, withdrawSheet}
 use Rattle.ledger.specs.Sharing.{Tells, Rule, shareAnswer, shareBook, shareSheet, shareUses, shareShares}
 
 -- a profile is lawful where what it tells are factors
@@ -41,7 +43,7 @@ pub record Means : Type 0 where
   pub uses : List ℕ
   pub shares : List ℕ
 
--- one call: what was handed in, and what was told. A day stands there as its token, which is its number.
+-- one call: what was handed in, and what was told. A day or a slip stands there as its token, which is its number (and its point).
 pub data Event : Type 0 where
   TraderAdmitted : Result ℕ Refusal → Event
   PointAdmitted : Particulars → Result ℕ Refusal → Event
@@ -52,6 +54,11 @@ pub data Event : Type 0 where
   Shared : MeasuredDay → Means → Result SharedOut (Refused MeasuredDay) → List ℕ → List ℕ → Event
   OpenAbandoned : OpenDay → Result Unit (Refused OpenDay) → Event
   MeasuredAbandoned : MeasuredDay → Result Unit (Refused MeasuredDay) → Event
+  -- the point and the reading
+  PointRead : ℕ → ℕ → Result Slip Refusal → Event
+  Booked : Slip → Result ℤ (Refused Slip) → Event
+  HandedOver : Slip → ℕ → Result ℤ (Refused Slip) → Event
+  Withdrawn : Slip → Result Unit (Refused Slip) → Event
 
 -- the calls of a ledger's life, the newest first
 abbrev pub History : Type 0
@@ -82,6 +89,10 @@ Makes (InflowTaken d g x r) l s l′ s′ = Step r (inflowAnswer l d g x) l′ (
 Makes (Shared d m r us ss) l s l′ s′ = ShareStep d m r us ss l s l′ s′
 Makes (OpenAbandoned d r) l s l′ s′ = Step r (abandonOpenAnswer l d) l′ (abandonOpenBook l d) s′ s
 Makes (MeasuredAbandoned d r) l s l′ s′ = Step r (abandonMeasuredAnswer l d) l′ (abandonMeasuredBook l d) s′ s
+Makes (PointRead k v r) l s l′ s′ = Step r (readAnswer l s k v) l′ (readBook l s k v) s′ (readSheet l s k v)
+Makes (Booked w r) l s l′ s′ = Step r (bookAnswer l s w) l′ (bookBook l s w) s′ (bookSheet l s w)
+Makes (HandedOver w t r) l s l′ s′ = Step r (handAnswer l s w t) l′ (handBook l s w t) s′ (handSheet l s w t)
+Makes (Withdrawn w r) l s l′ s′ = Step r (withdrawAnswer l s w) l′ l s′ (withdrawSheet l s w)
 
 -- the history h leads to the ledger l and the sheet s: it begins with a new ledger and any sheet, an unused one as well
 pub data Leads : History → Book → List Point → Type 0 where

@@ -4,4 +4,5 @@ pub mod Accounts
 pub mod Grounds
 pub mod Days
 pub mod Sharing
+pub mod Readings
 pub mod History

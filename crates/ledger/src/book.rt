@@ -12,6 +12,7 @@ use crate::point::Point;
 use refusals::Refusal;
 
 mod days;
+mod readings;
 mod rows;
 mod share;
 

@@ -11,8 +11,9 @@ ghost use Rattle.ledger.specs.Accounts.{newBook, Near, allAccounts, accountAt,
 ghost use Rattle.ledger.specs.Days.{admitAnswer, admitBook, pointAnswer, pointBook, pointSheet, openAnswer, openBook, enterAnswer, enterBook};
 ghost use Rattle.ledger.specs.Days.{inflowAnswer, inflowBook, abandonOpenAnswer, abandonOpenBook, abandonMeasuredAnswer, abandonMeasuredBook};
 ghost use Rattle.ledger.specs.Days.{accountAnswer, meteredAnswer, openQuantityAnswer};
+ghost use Rattle.ledger.specs.Readings.{readAnswer, readBook, readSheet, bookAnswer, bookBook, bookSheet, handAnswer, handBook, handSheet, withdrawAnswer, withdrawSheet};
 ghost use Rattle.ledger.specs.Sharing.{shareAnswer, shareBook, shareSheet, shareUses, shareShares};
-ghost use Rattle.ledger.specs.History.{Leads, Goes, Means, TraderAdmitted, PointAdmitted, Opened, Entered, InflowTaken, Shared, OpenAbandoned, MeasuredAbandoned};
+ghost use Rattle.ledger.specs.History.{Leads, Goes, Means, TraderAdmitted, PointAdmitted, Opened, Entered, InflowTaken, Shared, OpenAbandoned, MeasuredAbandoned, PointRead, Booked, HandedOver, Withdrawn};
 ghost use Rattle.ledger.specs.declared.point.Point.{Point as Row};
 use crate::book::Book;
 use crate::book::Counts;
@@ -22,6 +23,7 @@ use crate::day::Refused;
 use crate::day::SharedOut;
 use crate::point::Particulars;
 use crate::point::Point;
+use crate::slip::Slip;
 use profiles::Profile;
 use refusals::Refusal;
 use shares::ShareRule;
@@ -145,6 +147,50 @@ impl Ledger {
         ensures run { λ r. ⌜ ((s : List Row) → Goes (MeasuredAbandoned day r) (now (self .entry) .book) s (now (self .exit) .book) s) ⌝ }
     {
         self.book.abandon_measured(day)
+    }
+
+    // Reads a point: its row keeps the reading until the slip ends.
+    pub fn read(&mut self, sheet: &mut [Point], point: usize, reading: u32) -> Result<Slip, Refusal>
+        ensures answer { λ r. ⌜ r ≡ readAnswer (now (self .entry) .book) (now (sheet .entry)) point reading ⌝ }
+        ensures state { λ r. ⌜ now (self .exit) .book ≡ readBook (now (self .entry) .book) (now (sheet .entry)) point reading ⌝ }
+        ensures rows { λ r. ⌜ now (sheet .exit) ≡ readSheet (now (self .entry) .book) (now (sheet .entry)) point reading ⌝ }
+        ensures run { λ r. ⌜ (Goes (PointRead point reading r) (now (self .entry) .book) (now (sheet .entry)) (now (self .exit) .book) (now (sheet .exit))) ⌝ }
+    {
+        self.book.read(sheet, point, reading)
+    }
+
+    // Books a reading: the correction is added to the trader's account and taken from the distributor's.
+    pub fn book(&mut self, sheet: &mut [Point], slip: Slip) -> Result<i64, Refused<Slip>>
+        ensures answer { λ r. ⌜ r ≡ bookAnswer (now (self .entry) .book) (now (sheet .entry)) slip ⌝ }
+        ensures state { λ r. ⌜ now (self .exit) .book ≡ bookBook (now (self .entry) .book) (now (sheet .entry)) slip ⌝ }
+        ensures rows { λ r. ⌜ now (sheet .exit) ≡ bookSheet (now (self .entry) .book) (now (sheet .entry)) slip ⌝ }
+        ensures run { λ r. ⌜ (Goes (Booked slip r) (now (self .entry) .book) (now (sheet .entry)) (now (self .exit) .book) (now (sheet .exit))) ⌝ }
+    {
+        self.book.book(sheet, slip)
+    }
+
+    // Hands a point over: books the reading for the trader who had it, and then the point is the new trader's.
+    pub fn hand_over(
+        &mut self,
+        sheet: &mut [Point],
+        slip: Slip,
+        trader: u32,
+    ) -> Result<i64, Refused<Slip>>
+        ensures answer { λ r. ⌜ r ≡ handAnswer (now (self .entry) .book) (now (sheet .entry)) slip trader ⌝ }
+        ensures state { λ r. ⌜ now (self .exit) .book ≡ handBook (now (self .entry) .book) (now (sheet .entry)) slip trader ⌝ }
+        ensures rows { λ r. ⌜ now (sheet .exit) ≡ handSheet (now (self .entry) .book) (now (sheet .entry)) slip trader ⌝ }
+        ensures run { λ r. ⌜ (Goes (HandedOver slip trader r) (now (self .entry) .book) (now (sheet .entry)) (now (self .exit) .book) (now (sheet .exit))) ⌝ }
+    {
+        self.book.hand_over(sheet, slip, trader)
+    }
+
+    // Withdraws a reading: the slip ends and nothing is booked.
+    pub fn withdraw(&self, sheet: &mut [Point], slip: Slip) -> Result<(), Refused<Slip>>
+        ensures answer { λ r. ⌜ r ≡ withdrawAnswer (now (self .entry) .book) (now (sheet .entry)) slip ⌝ }
+        ensures rows { λ r. ⌜ now (sheet .exit) ≡ withdrawSheet (now (self .entry) .book) (now (sheet .entry)) slip ⌝ }
+        ensures run { λ r. ⌜ (Goes (Withdrawn slip r) (now (self .entry) .book) (now (sheet .entry)) (now (self .entry) .book) (now (sheet .exit))) ⌝ }
+    {
+        self.book.withdraw(sheet, slip)
     }
 
     // The open sums of a trader's points together.

@@ -5,6 +5,7 @@ mod day;
 mod ledger;
 mod measured;
 mod point;
+mod slip;
 
 pub use book::Counts;
 pub use book::CountsPartialEq;
@@ -19,3 +20,4 @@ pub use point::Particulars;
 pub use point::Point;
 pub use point::PointDebug;
 pub use point::PointPartialEq;
+pub use slip::Slip;

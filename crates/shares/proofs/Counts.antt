@@ -1,15 +1,15 @@
 -- Counts of what passes a test, and where a list of numbers is cut.
 use mathlib.Core.Path.{_≡_, refl, ap}
 use mathlib.Core.Bool.{Bool, cond}
-use mathlib.Core.Logic.{⊎-elim}
+use mathlib.Core.Logic.{_⊎_, inl, inr, ⊎-elim}
 use mathlib.Core.List.{List, [], _∷_}
-use Prim.Native.Nat.{ℕ, zero, suc, _+_, _-_, _<_, _≤_, min}
+use Prim.Native.Nat.{ℕ, zero, suc, _+_, _-_, _<_, _≤_, min, max}
 use native.Mathlib.Omega.{arith}
 use lib.Dec.{eqb, leb, ltb}
 use lib.ListN.{length, getD, take}
 use Rattle.std.specs.shelf.Lists.{countBy}
 use Rattle.std.proofs.shelf.Sums.{sumBy-cons, sumBy-take-le, countBy-more-yes, countBy-more-no}
-use Rattle.std.proofs.shelf.Tests.{cases-lt, cases-order, lt-ltb, le-ltb, eq-eqb, ne-eqb}
+use Rattle.std.proofs.shelf.Tests.{cases-lt, cases-order, le-leb, lt-leb, lt-ltb, le-ltb, eq-eqb, ne-eqb}
 use Rattle.std.proofs.shelf.Ways.{tells}
 use Rattle.shares.specs.Rules.{ahead}
 
@@ -59,6 +59,42 @@ reach-falls (r ∷ rs) t u h =
     let q = reach-cons r rs u in
     let here : one-if (leb u r) ≤ one-if (leb t r) = grind (arith, tells) in
     omega (arith, reach-falls rs t u h)
+
+-- where none lies from a to below b, none lies from c to below d inside of it
+pub none-inside : (rs : List ℕ) (a b c d : ℕ) → a ≤ c → c ≤ d → d ≤ b → reach rs a ≡ reach rs b → reach rs c ≡ reach rs d
+none-inside rs a b c d p q r e = omega (arith, reach-falls rs a c p, reach-falls rs c d q, reach-falls rs d b r)
+
+-- and one more that lies outside changes nothing
+pub none-more : (rs : List ℕ) (i a b : ℕ) → i < length rs → a ≤ b → (getD rs i 0 < a) ⊎ (b ≤ getD rs i 0) → reach (take i rs) a ≡ reach (take i rs) b → reach (take (i + 1) rs) a ≡ reach (take (i + 1) rs) b
+none-more rs i a b in′ order where′ e =
+    ⊎-elim
+    (λ less.
+    let p = countBy-more-no (λ r. leb a r) rs i 0 in′ (lt-leb _ _ less) in
+    let q = countBy-more-no (λ r. leb b r) rs i 0 in′ (lt-leb _ _ (omega arith)) in
+    omega arith)
+    (λ more.
+    let p = countBy-more-yes (λ r. leb a r) rs i 0 in′ (le-leb _ _ (omega arith)) in
+    let q = countBy-more-yes (λ r. leb b r) rs i 0 in′ (le-leb _ _ more) in
+    omega arith)
+    where′
+
+-- one turn of a pass for the least from low on: m before it, and m′ after it
+pub least-more : (rs : List ℕ) (i low high m m′ : ℕ) → i < length rs → (low ≤ m) × (m ≤ high) × (reach (take i rs) low ≡ reach (take i rs) m) → ((low ≤ getD rs i 0) × (m′ ≡ min m (getD rs i 0))) ⊎ ((getD rs i 0 < low) × (m′ ≡ m)) → (low ≤ m′) × (m′ ≤ high) × (reach (take (i + 1) rs) low ≡ reach (take (i + 1) rs) m′)
+least-more rs i low high m m′ in′ inv way =
+    let r = getD rs i 0 in
+    let from : low ≤ m′ = ⊎-elim (λ w. omega arith) (λ w. omega arith) way in
+    let less : m′ ≤ m = ⊎-elim (λ w. omega arith) (λ w. omega arith) way in
+    let outside : (r < low) ⊎ (m′ ≤ r) = ⊎-elim (λ w. inr (omega arith)) (λ w. inl (w .0)) way in
+    (from, omega arith, none-more rs i low m′ in′ from outside (none-inside (take i rs) low m low m′ (omega arith) from less (inv .2)))
+
+-- one turn of a pass for the greatest up to high
+pub greatest-more : (rs : List ℕ) (i low high m m′ : ℕ) → i < length rs → (low ≤ m) × (m ≤ high) × (higher (take i rs) m ≡ higher (take i rs) high) → ((getD rs i 0 ≤ high) × (m′ ≡ max m (getD rs i 0))) ⊎ ((high < getD rs i 0) × (m′ ≡ m)) → (low ≤ m′) × (m′ ≤ high) × (higher (take (i + 1) rs) m′ ≡ higher (take (i + 1) rs) high)
+greatest-more rs i low high m m′ in′ inv way =
+    let r = getD rs i 0 in
+    let to : m′ ≤ high = ⊎-elim (λ w. omega arith) (λ w. omega arith) way in
+    let more : m ≤ m′ = ⊎-elim (λ w. omega arith) (λ w. omega arith) way in
+    let outside : (r < suc m′) ⊎ (suc high ≤ r) = ⊎-elim (λ w. inl (omega arith)) (λ w. inr (w .0)) way in
+    (omega arith, to, none-more rs i (suc m′) (suc high) in′ (omega arith) outside (none-inside (take i rs) (suc m) (suc high) (suc m′) (suc high) (omega arith) (omega arith) (omega arith) (inv .2)))
 
 -- l places are cut off at t: no more than l are above it, and no fewer than l reach it
 pub record Cut (rs : List ℕ) (l t : ℕ) : Type 0 where

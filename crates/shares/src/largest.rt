@@ -13,7 +13,7 @@ use crate::rule::clear;
 use crate::rule::fair_total;
 
 // How many turns guess where the cut lies before they halve.
-const GUESSES: u8 = 8;
+const GUESSES: u8 = 5;
 
 // Each place gets its floor, and the litres left go one each to the largest remainders, the lower place first where
 // they are equal.
@@ -88,8 +88,41 @@ fn even_cut(low: u64, high: u64, reach: u64, past: u64, n: u64) -> u64
     low + step.min(width - 1)
 }
 
-// The cut of the first `n` places: at most `n` remainders are above it, and at least `n` reach it. The first turns guess,
-// and where the remainders lie so unevenly that this fails, the others halve.
+// The least remainder from `low` on, or `high` where none is below that: as many reach it as reach `low`.
+fn least_from(rems: &[u64], low: u64, high: u64) -> u64
+    requires { ⌜ low ≤ high ⌝ }
+    ensures from { λ r. ⌜ low ≤ r ⌝ }
+    ensures to { λ r. ⌜ r ≤ high ⌝ }
+    ensures same { λ r. ⌜ countBy (λ x. leb r x) (now (rems .entry)) ≡ countBy (λ x. leb low x) (now (rems .entry)) ⌝ }
+{
+    let mut least = high;
+    for r in rems {
+        if *r >= low {
+            least = least.min(*r);
+        }
+    }
+    least
+}
+
+// The greatest remainder up to `high`, or `low` where none is above that: as many are above it as are above `high`.
+fn greatest_to(rems: &[u64], low: u64, high: u64) -> u64
+    requires { ⌜ low ≤ high ⌝ }
+    ensures from { λ r. ⌜ low ≤ r ⌝ }
+    ensures to { λ r. ⌜ r ≤ high ⌝ }
+    ensures same { λ r. ⌜ countBy (λ x. ltb r x) (now (rems .entry)) ≡ countBy (λ x. ltb high x) (now (rems .entry)) ⌝ }
+{
+    let mut greatest = low;
+    for r in rems {
+        if *r <= high {
+            greatest = greatest.max(*r);
+        }
+    }
+    greatest
+}
+
+// The cut of the first `n` places: at most `n` remainders are above it, and at least `n` reach it. The first turns guess.
+// Where that does not hit on a cut, as when it lies among equal remainders, the others halve what is left between two of
+// them.
 fn find_cut(rems: &[u64], n: u64, top: u64) -> Cut
     requires places { ⌜ length (now rems) ≤ maxWeights ⌝ }
     requires limit { ⌜ top ≤ maxTotal ⌝ }
@@ -121,6 +154,10 @@ fn find_cut(rems: &[u64], n: u64, top: u64) -> Cut
         } else {
             low = mid + 1;
             reach = higher;
+        }
+        if guesses == 0 {
+            low = least_from(rems, low, high);
+            high = greatest_to(rems, low, high);
         }
     }
     Cut {

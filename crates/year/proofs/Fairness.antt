@@ -14,17 +14,18 @@ use Rattle.std.proofs.shelf.Counted.{fill-by-all, length-map-counting, getD-map
 use Rattle.std.proofs.shelf.Elements.{all-from-getD}
 use Rattle.std.proofs.shelf.Lists.{length-map, length-take, getD-map, getD-take, getD-replicate}
 use Rattle.std.proofs.shelf.Sums.{sumBy-cons}
-use Rattle.std.proofs.shelf.Tests.{lt-ltb, le-ltb, le-leb, eq-eqb, ltb-false, leb-true, eqb-false, and-parts, and-from, and-right, and-cases, cases-lt}
+use Rattle.std.proofs.shelf.Tests.{lt-ltb, le-ltb, le-leb, eq-eqb, ltb-false, eqb-false, and-from, and-right, and-cases, cases-lt}
 use Rattle.profiles.specs.declared.factors.Factors.{Factors}
 use Rattle.shares.specs.Fair.{fair, maxQuantity, maxWeights, maxWeight}
 use Rattle.ledger.specs.declared.point.Point.{Point}
-use Rattle.ledger.specs.Rows.{rowAt, noRow, profileUse, profileUses, dialFits, particularsFit}
+use Rattle.ledger.specs.Rows.{rowAt, noRow, profileUse, profileUses, particularsFit}
 use Rattle.ledger.specs.Sharing.{Tells, Rule}
 use Rattle.ledger.specs.History.{LawfulProfile, LawfulRule}
 use Rattle.ledger.proofs.Keep.{shares-within}
 use Rattle.year.specs.Settlements.{Day, Settlement, pointsIn}
 use Rattle.year.specs.Quantities.{givenFor, scaleOf, toldFor, weightOf, quantityOn}
 use Rattle.year.specs.Law.{Proportional, FairDay, RowAgrees}
+use Rattle.year.proofs.Rows.{row-fitting}
 
 -- Weights.
 
@@ -55,20 +56,9 @@ use-small scale factor h k =
     let b : scale * factor ≤ 10_000_000 * 2_000_000 = omega arith in
     div-le-of-le-mul 10_000_000 b
 
--- a row's scale factor is within its limit
-scale-small : (p : Point) → particularsFit (p .segment) (p .digits) (p .«litres_per_unit») (p .reading) (p .«scale_factor») ≡ true → p .«scale_factor» ≤ 2_000_000
-scale-small p e =
-    let a = and-parts (ltb (p .segment) 8) _ e in
-    let b = and-parts (leb 4 (p .digits)) _ (a .1) in
-    let c = and-parts (leb (p .digits) 8) _ (b .1) in
-    let f = and-parts (leb 1 (p .«litres_per_unit»)) _ (c .1) in
-    let g = and-parts (leb (p .«litres_per_unit») 2000) _ (f .1) in
-    let i = and-parts (dialFits (p .digits) (p .reading)) (leb (p .«scale_factor») 2_000_000) (g .1) in
-    leb-true _ _ (i .1)
-
 pub weight-small : (c : List Settlement) (d : Day) (tells : Tells) (k : ℕ) (p : Point) → LawfulProfile tells → RowAgrees c k p → particularsFit (p .segment) (p .digits) (p .«litres_per_unit») (p .reading) (p .«scale_factor») ≡ true → weightOf c d tells k ≤ maxWeight
 weight-small c d tells k p law a f =
-    let most = scale-small p f in
+    let most = row-fitting p f .scale-most in
     let same = a .scale in
     use-small (scaleOf c k) (toldFor c d tells k .day) (omega arith) (law (givenFor c k .segment) (d .temperature) (d .season) .1)
 

@@ -1,7 +1,10 @@
 pub mod Today
+pub mod Rows
 pub mod Sheets
 pub mod Money
+pub mod Consumption
 pub mod Fairness
 pub mod Agreement
 pub mod Sharing
+pub mod Reading
 pub mod Year

@@ -5,7 +5,7 @@ use mathlib.Core.List.{List, [], _∷_, map}
 use Prim.Native.Nat.{ℕ, zero, suc, _+_, _≤_, _<_}
 use native.Mathlib.Omega.{arith}
 use lib.Dec.{eqb}
-use lib.IntN.{ℤ, pos, _+ℤ_}
+use lib.IntN.{ℤ, pos, _+ℤ_, _-ℤ_}
 use lib.ListN.{length, getD, take, replicate}
 use Rattle.std.specs.shelf.Lists.{sum}
 use Rattle.std.proofs.shelf.Lists.{take-all}
@@ -14,32 +14,35 @@ use Rattle.ledger.specs.declared.book.Trader.{Trader}
 use Rattle.ledger.specs.declared.point.Particulars.{Particulars}
 use Rattle.ledger.specs.declared.point.Point.{Point}
 use Rattle.ledger.specs.Limits.{maxTraders}
-use Rattle.ledger.specs.Accounts.{noTrader, accountAt, meteredAt, meteredSum, allAccounts, creditedTo, entered, settled, unmetered}
+use Rattle.ledger.specs.Accounts.{noTrader, accountAt, meteredAt, meteredSum, allAccounts, credited, creditedTo, entered, settled, unmetered}
 use Rattle.ledger.specs.Rows.{rowAt}
 use Rattle.ledger.specs.Sharing.{Tells}
 use Rattle.ledger.proofs.Places.{by-eqb, set-at}
 use Rattle.ledger.proofs.Traders.{new-at, account-entered, account-unmetered, account-settled, length-creditedTo, metered-creditedTo, meteredSum-creditedTo}
-use Rattle.ledger.proofs.Totals.{total-new, total-entered, total-creditedTo, total-settled, total-unmetered}
-use Rattle.year.specs.Settlements.{Day, Settlement, joined, dayShared, pointsIn}
-use Rattle.year.specs.Quantities.{enteredBy, traderOf, sharesTo, accountOf, inflowOf, lossesOf, lossOn}
+use Rattle.ledger.proofs.Totals.{total-new, total-entered, total-credited, total-creditedTo, total-settled, total-unmetered}
+use Rattle.year.specs.Settlements.{Day, Settlement, joined, dayShared, booked, pointsIn, traderOf}
+use Rattle.year.specs.Quantities.{enteredBy, sharesTo, accountOf, correctionsIn, inflowOf, lossesOf, lossOn}
 
 pub record Money (c : List Settlement) (ts : List Trader) (loss : ℕ) (correction : ℤ) : Type 0 where
   pub losses : loss ≡ lossesOf c
   pub accounts : (t : ℕ) → accountAt ts t ≡ accountOf c t
+  pub corrections : correction ≡ pos 0 -ℤ correctionsIn c
   pub balance : pos (inflowOf c) ≡ pos loss +ℤ allAccounts ts +ℤ correction
 
 pub money-new : Money [] (replicate maxTraders noTrader) 0 (pos 0)
-unfolding lossesOf accountOf inflowOf
+unfolding lossesOf accountOf correctionsIn inflowOf
 money-new =
     record {
       losses = refl;
       accounts = λ t. ap (λ (u : Trader). u .account) (new-at maxTraders t);
+      corrections = refl;
       balance = ap (λ (z : ℤ). pos 0 +ℤ z +ℤ pos 0) (sym (total-new maxTraders));
     }
 
 pub money-joined : (g : Particulars) (c : List Settlement) (ts : List Trader) (loss : ℕ) (correction : ℤ) → Money c ts loss correction → Money (joined g ∷ c) ts loss correction
-unfolding lossesOf accountOf inflowOf
-money-joined g c ts loss correction m = record { losses = m .losses; accounts = m .accounts; balance = m .balance }
+unfolding lossesOf accountOf correctionsIn inflowOf
+money-joined g c ts loss correction m =
+    record { losses = m .losses; accounts = m .accounts; corrections = m .corrections; balance = m .balance }
 
 -- traders whose accounts and whose total are as they were
 money-still : (c : List Settlement) (ts us : List Trader) (loss : ℕ) (correction : ℤ) → ((t : ℕ) → accountAt us t ≡ accountAt ts t) → allAccounts us ≡ allAccounts ts → Money c ts loss correction → Money c us loss correction
@@ -47,6 +50,7 @@ money-still c ts us loss correction each all m =
     record {
       losses = m .losses;
       accounts = λ t. each t ∙ m .accounts t;
+      corrections = m .corrections;
       balance = m .balance ∙ ap (λ (z : ℤ). pos loss +ℤ z +ℤ correction) (sym all);
     }
 
@@ -106,10 +110,38 @@ module _ (c : List Settlement) (d : Day) (tells : Tells) (ts : List Trader) (s :
       omega (arith, ints)
 
   pub money-shared : (loss x : ℕ) (correction : ℤ) → ((i : ℕ) → i < n → rowAt s i .trader ≡ traderOf c i) → length qs ≤ n → ((t : ℕ) → meteredAt ts t ≡ enteredBy t (d .entries)) → x ≡ lossOn d → sum qs + x + meteredSum ts ≡ d .inflow → Money c ts loss correction → Money (dayShared d tells qs ∷ c) (map settled (creditedTo ts s qs n)) (loss + x) correction
-  unfolding lossesOf inflowOf
+  unfolding lossesOf correctionsIn inflowOf
   money-shared loss x correction is short metered lost whole m =
       record {
         losses = ap (λ (k : ℕ). k + x) (m .losses) ∙ ap (λ (k : ℕ). lossesOf c + k) lost;
         accounts = λ t. account-shared is t (metered t) (m .accounts t);
+        corrections = m .corrections;
         balance = balance-shared loss x correction short whole (m .balance);
       }
+
+-- A reading booked.
+
+-- the trader whose the point is has the correction, and every other what he had
+account-booked : (c : List Settlement) (ts : List Trader) (k v u j : ℕ) (z : ℤ) → j < length ts → j ≡ traderOf c k → (t : ℕ) → ((i : ℕ) → accountAt ts i ≡ accountOf c i) → accountAt (credited ts j z) t ≡ accountOf (booked k v u z ∷ c) t
+unfolding accountOf
+account-booked c ts k v u j z h is t old =
+    set-at (λ (x : Trader). x .account) ts j (record { account = accountAt ts j +ℤ z; metered = meteredAt ts j }) noTrader t h
+    ∙ by-eqb j t (λ b. cond b (accountAt ts j +ℤ z) (accountAt ts t) ≡ cond b (accountOf c t +ℤ z) (accountOf c t))
+    (λ e. ap (λ (y : ℤ). y +ℤ z) (ap (accountAt ts) e ∙ old t))
+    (λ ne. old t)
+    ∙ ap (λ (i : ℕ). cond (eqb i t) (accountOf c t +ℤ z) (accountOf c t)) is
+
+pub money-booked : (c : List Settlement) (ts : List Trader) (loss : ℕ) (correction : ℤ) (k v u j : ℕ) (z : ℤ) → j < length ts → j ≡ traderOf c k → Money c ts loss correction → Money (booked k v u z ∷ c) (credited ts j z) loss (correction -ℤ z)
+unfolding lossesOf correctionsIn inflowOf
+money-booked c ts loss correction k v u j z h is m =
+    let all = total-credited ts j z h in
+    let gone = m .corrections in
+    let old = m .balance in
+    record {
+      losses = m .losses;
+      accounts = λ t. account-booked c ts k v u j z h is t (m .accounts);
+      corrections = let r : correction -ℤ z ≡ pos 0 -ℤ (correctionsIn c +ℤ z) = omega (arith, ints) in r;
+      balance =
+          let r : pos (inflowOf c) ≡ pos loss +ℤ allAccounts (credited ts j z) +ℤ (correction -ℤ z) = omega (arith, ints) in
+          r;
+    }

@@ -25,11 +25,12 @@ use Rattle.year.specs.Settlements.{Day, Settlement, dayShared, pointsIn, accep
 use Rattle.year.specs.Quantities.{weightOf, quantityOn}
 use Rattle.year.proofs.Today.{Running, running}
 use Rattle.year.proofs.Sheets.{sheet-shared}
+use Rattle.year.proofs.Consumption.{consumed-shared}
 use Rattle.year.proofs.Money.{money-shared}
 use Rattle.year.proofs.Fairness.{weights, uses-are, weight-small, weights-small, fair-day, whole-shared}
 use Rattle.year.proofs.Agreement.{Agrees}
 
-module _ (c : List Settlement) (d : Day) (l : Book) (s : List Point) (tells : Tells) (rule : Rule) (profile : LawfulProfile tells) (law : LawfulRule rule) (h : Sound l) (a : Agrees c d l s) where
+module _ (c : List Settlement) (d : Day) (taken : ℕ → ℕ) (l : Book) (s : List Point) (tells : Tells) (rule : Rule) (profile : LawfulProfile tells) (law : LawfulRule rule) (h : Sound l) (a : Agrees c d taken l s) where
   -- one share for each point
   shares-count : length (dayShares l s tells rule) ≡ l .counts .points
   shares-count =
@@ -65,7 +66,7 @@ module _ (c : List Settlement) (d : Day) (l : Book) (s : List Point) (tells : Te
       in
       whole-shared rule (dayQuantity (l .phase)) ws law (run .small) (omega arith) small weight
 
-  shared-agrees : Running (l .phase) (l .traders) d → noWeight l s tells ≡ false → Agrees (dayShared d tells (dayShares l s tells rule) ∷ c) d (sharedBook l s (dayShares l s tells rule)) (sharedRows (toldOn (l .phase) tells) s (dayShares l s tells rule) (l .counts .points))
+  shared-agrees : Running (l .phase) (l .traders) d → noWeight l s tells ≡ false → Agrees (dayShared d tells (dayShares l s tells rule) ∷ c) d taken (sharedBook l s (dayShares l s tells rule)) (sharedRows (toldOn (l .phase) tells) s (dayShares l s tells rule) (l .counts .points))
   shared-agrees run weight =
       let qs = dayShares l s tells rule in
       let n = l .counts .points in
@@ -86,10 +87,10 @@ module _ (c : List Settlement) (d : Day) (l : Book) (s : List Point) (tells : Te
       record {
         today = tt;
         sheet =
-            sheet-shared c d tells qs (toldOn (l .phase) tells) n (l .counts .traders) (l .counts .shared) s len
+            sheet-shared c taken n (l .counts .traders) (l .counts .shared) s (a .sheet) d tells qs (toldOn (l .phase) tells) len
             (λ k. let most = getD-le-sum qs k in omega arith)
             (λ k. profile k (skyIn (l .phase) .temperature) (skyIn (l .phase) .season) .0)
-            (told-is run) (a .sheet);
+            (told-is run);
         money =
             money-shared c d tells ts s qs n count (λ i q. let own = a .sheet .rows i q .owned in omega arith) (l .loss)
             (dayLoss (l .phase)) (l .correction) (λ i q. a .sheet .rows i q .agrees .trader) (omega arith) (run .each) (run .loss)
@@ -98,21 +99,22 @@ module _ (c : List Settlement) (d : Day) (l : Book) (s : List Point) (tells : Te
           fair-day c d tells rule qs law (omega arith) (omega arith) (λ k q. weight-limit k (omega arith)) is,
           a .fair,
         );
+        consumed = consumed-shared c d tells qs (a .consumed);
       }
 
-  pub share-agrees : (day : MeasuredDay) (segments uses : ℕ) (shares ss : List ℕ) → ss ≡ shareShares l day s tells rule segments uses shares → Agrees (accepted (shareAnswer l day s tells segments uses (length shares)) (dayShared d tells (take (pointsIn c) ss) ∷ c) c) d (shareBook l day s tells rule segments uses (length shares)) (shareSheet l day s tells rule segments uses (length shares))
+  pub share-agrees : (day : MeasuredDay) (segments uses : ℕ) (shares ss : List ℕ) → ss ≡ shareShares l day s tells rule segments uses shares → Agrees (accepted (shareAnswer l day s tells segments uses (length shares)) (dayShared d tells (take (pointsIn c) ss) ∷ c) c) d taken (shareBook l day s tells rule segments uses (length shares)) (shareSheet l day s tells rule segments uses (length shares))
   share-agrees day segments uses shares ss =
       let qs = dayShares l s tells rule in
       let n = l .counts .points in
       let after = sharedRows (toldOn (l .phase) tells) s qs n in
       by-option
-      (λ o. ss ≡ unless o (qs ++ drop n shares) shares → Agrees (accepted (handedBack o day (shareTold l s tells)) (dayShared d tells (take (pointsIn c) ss) ∷ c) c) d (unless o (sharedBook l s qs) l) (unless o after s))
+      (λ o. ss ≡ unless o (qs ++ drop n shares) shares → Agrees (accepted (handedBack o day (shareTold l s tells)) (dayShared d tells (take (pointsIn c) ss) ∷ c) c) d taken (unless o (sharedBook l s qs) l) (unless o after s))
       (shareFault l day s tells segments uses (length shares))
       (λ e given.
       let o = shares-out l day s tells segments uses (length shares) e in
       let run = running (l .phase) (day .number) (l .«next_day») (l .traders) d (o .0 .running) (h .day) (a .today) in
-      let taken : take (pointsIn c) ss ≡ qs =
+      let written : take (pointsIn c) ss ≡ qs =
       ap (take (pointsIn c)) given ∙ take-at qs (drop n shares) (pointsIn c) (shares-count ∙ a .sheet .count)
       in
-      subst (λ (xs : List ℕ). Agrees (dayShared d tells xs ∷ c) d (sharedBook l s qs) after) (sym taken) (shared-agrees run (o .1)))
+      subst (λ (xs : List ℕ). Agrees (dayShared d tells xs ∷ c) d taken (sharedBook l s qs) after) (sym written) (shared-agrees run (o .1)))
       (λ w given. a)

@@ -28,6 +28,15 @@ pub record Begun (w : Sky) (ts : List Trader) (d : Day) : Type 0 where
   pub each : (t : ℕ) → meteredAt ts t ≡ enteredBy t (d .entries)
   pub all : meteredSum ts ≡ enteredIn (d .entries)
 
+begun-still : (w : Sky) (ts us : List Trader) (d : Day) → ((t : ℕ) → meteredAt us t ≡ meteredAt ts t) → meteredSum us ≡ meteredSum ts → Begun w ts d → Begun w us d
+begun-still w ts us d each all o =
+    record {
+      temperature = o .temperature;
+      season = o .season;
+      each = λ t. each t ∙ o .each t;
+      all = all ∙ o .all;
+    }
+
 -- what the inflow gave
 pub record Figures (g x q : ℕ) (d : Day) : Type 0 where
   pub inflow : g ≡ d .inflow
@@ -74,6 +83,12 @@ today-measured (Open m w) k ts d n g r e o = (
   record { inflow = refl; loss = refl; quantity = ap (λ (m : ℕ). g - lossOf g r - m) (o .all) },
 )
 today-measured (Measured m w i x q) k ts d n g r e o = absurd (false≢true e)
+
+-- traders whose metered litres are as they were
+pub today-still : (ph : Phase) (ts us : List Trader) (d : Day) → ((t : ℕ) → meteredAt us t ≡ meteredAt ts t) → meteredSum us ≡ meteredSum ts → Today ph ts d → Today ph us d
+today-still Idle ts us d each all o = tt
+today-still (Open n w) ts us d each all o = begun-still w ts us d each all o
+today-still (Measured n w g x q) ts us d each all o = (begun-still w ts us d each all (o .0), o .1)
 
 -- what a share-out takes from the running day
 pub record Running (ph : Phase) (ts : List Trader) (d : Day) : Type 0 where

@@ -4,7 +4,7 @@ use mathlib.Core.Path.{_≡_}
 use mathlib.Core.Bool.{true, false}
 use mathlib.Core.List.{List, [], _∷_}
 use Prim.Native.Nat.{ℕ, _<_}
-use lib.IntN.{ℤ, pos, _+ℤ_}
+use lib.IntN.{ℤ, pos, _+ℤ_, _-ℤ_}
 use lib.ListN.{getD}
 use Rattle.shares.specs.Fair.{Near}
 use Rattle.ledger.specs.declared.book.Book.{Book}
@@ -13,8 +13,8 @@ use Rattle.ledger.specs.Accounts.{accountAt, allAccounts}
 use Rattle.ledger.specs.Days.{isIdle}
 use Rattle.ledger.specs.Rows.{rowAt, every, inRange, mayShare}
 use Rattle.ledger.specs.Sharing.{Tells}
-use Rattle.year.specs.Settlements.{Day, Settlement, joined, dayShared, pointsIn}
-use Rattle.year.specs.Quantities.{quantityOn, givenFor, traderOf, scaleOf, sharesOf, periodOf, weightOf, weightSum, accountOf, inflowOf, lossesOf}
+use Rattle.year.specs.Settlements.{Day, Settlement, joined, dayShared, booked, pointsIn, traderOf}
+use Rattle.year.specs.Quantities.{quantityOn, givenFor, readingOf, scaleOf, sharesOf, sharesSince, periodOf, consumptionOf, correctionsOf, weightOf, weightSum, accountOf, correctionsIn, inflowOf, lossesOf}
 
 -- a share x of a litres at weight w of s in all is less than a litre from its exact proportion, and nought where nobody has weight
 pub record Proportional (a s w x : ℕ) : Type 0 where
@@ -31,6 +31,7 @@ abbrev pub FairDays : List Settlement → Type 0
 FairDays [] = Unit {0}
 FairDays (joined g ∷ c) = FairDays c
 FairDays (dayShared d tells ss ∷ c) = FairDay c d tells ss × FairDays c
+FairDays (booked k v t z ∷ c) = FairDays c
 
 -- the row of point k is what the settlements give
 pub record RowAgrees (c : List Settlement) (k : ℕ) (p : Point) : Type 0 where
@@ -38,9 +39,9 @@ pub record RowAgrees (c : List Settlement) (k : ℕ) (p : Point) : Type 0 where
   pub segment : p .segment ≡ givenFor c k .segment
   pub digits : p .digits ≡ givenFor c k .digits
   pub litres : p .«litres_per_unit» ≡ givenFor c k .«litres_per_unit»
-  pub reading : p .reading ≡ givenFor c k .reading
+  pub reading : p .reading ≡ readingOf c k
   pub scale : p .«scale_factor» ≡ scaleOf c k
-  pub shares : p .«open_sum» ≡ sharesOf c k
+  pub shares : p .«open_sum» ≡ sharesSince c k
   pub period : p .«period_sum» ≡ periodOf c k
 
 pub record YearLaw (c : List Settlement) (l : Book) (s : List Point) : Type 0 where
@@ -48,8 +49,12 @@ pub record YearLaw (c : List Settlement) (l : Book) (s : List Point) : Type 0 wh
   pub balance : pos (inflowOf c) ≡ pos (l .loss) +ℤ allAccounts (l .traders) +ℤ l .correction
   -- the loss account is the network loss of those days
   pub losses : l .loss ≡ lossesOf c
-  -- each trader's account is his entries of those days and the shares of points, each while it was his
+  -- each trader's account is his entries of those days and the shares and corrections of points, each while the point was his
   pub accounts : (t : ℕ) → accountAt (l .traders) t ≡ accountOf c t
+  -- the correction account has given what the bookings told
+  pub corrections : l .correction ≡ pos 0 -ℤ correctionsIn c
+  -- each point's shares and corrections are the consumption of its booked readings and its shares since the last of them
+  pub readings : (k : ℕ) → k < pointsIn c → pos (sharesOf c k) +ℤ correctionsOf c k ≡ pos (consumptionOf c k) +ℤ pos (sharesSince c k)
   -- each share of each day is less than a litre from its exact proportion
   pub fair : FairDays c
   -- the ledger's points and their rows are those of the history

@@ -38,7 +38,7 @@ impl Point {
     }
 
     // Whether the row lies within its ranges.
-    fn in_range(&self) -> bool
+    pub(super) fn in_range(&self) -> bool
         ensures { λ r. ⌜ r ≡ inRange (now (self .entry)) ⌝ }
     {
         self.trader < MAX_TRADERS

@@ -90,6 +90,30 @@ fn grow(account: i64, litres: u64) -> i64
     account + litres as i64
 }
 
+impl Trader {
+    // With some litres joined to the account.
+    fn credited(self, litres: u64) -> Trader
+        requires { ⌜ self .account ≤ℤ pos 6_000_000_000_000_000_000 ⌝ ∗ ⌜ litres ≤ 1_000_000_000 ⌝ }
+        ensures { λ r. ⌜ r ≡ record { account = self .account +ℤ pos litres; metered = self .metered } ⌝ }
+    {
+        Trader {
+            account: grow(self.account, litres),
+            metered: self.metered,
+        }
+    }
+
+    // With the metered sum of today moved to the account.
+    fn settled(self) -> Trader
+        requires { ⌜ self .account ≤ℤ pos 6_000_000_000_000_000_000 ⌝ ∗ ⌜ self .metered ≤ 1_000_000_000 ⌝ }
+        ensures { λ r. ⌜ r ≡ settled self ⌝ }
+    {
+        Trader {
+            account: grow(self.account, self.metered),
+            metered: 0,
+        }
+    }
+}
+
 impl Phase {
     fn quantity(self) -> u64
         ensures { λ r. ⌜ r ≡ dayQuantity self ⌝ }
@@ -150,11 +174,7 @@ impl Book {
         requires { ⌜ trader < length (now self .traders) ⌝ ∗ ⌜ share ≤ 1_000_000_000 ⌝ ∗ ⌜ accountAt (now self .traders) trader ≤ℤ pos 6_000_000_000_000_000_000 ⌝ }
         ensures { λ _. ⌜ now (self .exit) ≡ withTraders (now (self .entry)) (credited (now (self .entry) .traders) trader (pos share)) ⌝ }
     {
-        let old = self.traders[trader as usize];
-        self.traders[trader as usize] = Trader {
-            account: grow(old.account, share),
-            metered: old.metered,
-        };
+        self.traders[trader as usize] = self.traders[trader as usize].credited(share);
     }
 
     // Books the shares of the first n rows: to their open sums and their traders' accounts; and the multipliers to their period sums.
@@ -170,7 +190,7 @@ impl Book {
         for i in 0..n {
             let row = sheet[i];
             self.credit_one(row.trader, shares[i]);
-            sheet[i] = row.shared(shares[i], told[row.segment as usize].multiplier);
+            sheet[i] = row.shared(shares[i], told[row.segment as usize]);
         }
     }
 
@@ -180,11 +200,7 @@ impl Book {
         ensures { λ _. ⌜ now (self .exit) ≡ withTraders (now (self .entry)) (map settled (now (self .entry) .traders)) ⌝ }
     {
         for i in 0..64 {
-            let old = self.traders[i];
-            self.traders[i] = Trader {
-                account: grow(old.account, old.metered),
-                metered: 0,
-            };
+            self.traders[i] = self.traders[i].settled();
         }
     }
 
@@ -270,14 +286,14 @@ impl Book {
 }
 
 impl Point {
-    // The row after a day's share and multiplier joined its sums.
-    fn shared(self, share: u64, multiplier: u32) -> Point
+    // The row after a day's share and the multiplier that was told for it joined its sums.
+    fn shared(self, share: u64, told: Factors) -> Point
         requires { ⌜ self .«open_sum» ≤ 5_000_000_000_000 ⌝ ∗ ⌜ self .«period_sum» ≤ 40_000_000_000 ⌝ ∗ ⌜ share ≤ 1_000_000_000 ⌝ }
-        ensures { λ r. ⌜ r ≡ sharedRow self share multiplier ⌝ }
+        ensures { λ r. ⌜ r ≡ sharedRow self share (told .multiplier) ⌝ }
     {
         Point {
             open_sum: self.open_sum + share,
-            period_sum: self.period_sum + multiplier as u64,
+            period_sum: self.period_sum + told.multiplier as u64,
             ..self
         }
     }
