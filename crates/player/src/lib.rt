@@ -2,5 +2,6 @@
 pub mod player;
 pub mod recipe;
 pub mod report;
+pub mod slips;
 pub mod station;
 pub mod trouble;

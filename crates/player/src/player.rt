@@ -3,6 +3,7 @@ use crate::recipe::Layer;
 use crate::recipe::Recipe;
 use crate::recipe::test_layer;
 use crate::report::Report;
+use crate::slips::Slips;
 use crate::station::Station;
 use crate::trouble::Trouble;
 use crate::trouble::TroubleFromAlloc;
@@ -331,6 +332,7 @@ impl Player {
         &mut self,
         mut station: Station,
         line: u64,
+        slips: &mut Slips,
         call: Call<'_>,
         numbers: Vec<u32>,
         report: &mut Report,
@@ -339,11 +341,47 @@ impl Player {
             Call::Open { .. } | Call::Inflow { .. } | Call::Share { .. } | Call::Abandon => {
                 self.play_day(station, line, call, report)
             }
+            Call::Read { .. } | Call::Book { .. } | Call::HandOver { .. } | Call::Withdraw { .. } => {
+                let done = self.play_reading(&mut station, line, slips, call, report);
+                (station, done)
+            }
             _ => {
                 let done = self.play_beside(&mut station, line, call, numbers, report);
                 (station, done)
             }
         }
+    }
+
+    // Plays a call on a reading.
+    fn play_reading(
+        &mut self,
+        station: &mut Station,
+        line: u64,
+        slips: &mut Slips,
+        call: Call<'_>,
+        report: &mut Report,
+    ) -> Result<(), Trouble> {
+        let sheet = self.sheet.as_mut_slice();
+        match call {
+            Call::Read { point, reading } => {
+                let told = slips.read(station, sheet, point as usize, reading)?;
+                tell_slip(line, Kind::Read, point, told, report)?;
+            }
+            Call::Book { point } => {
+                let told = slips.book(station, sheet, point as usize);
+                tell_correction(line, Kind::Book, point, None, told, report)?;
+            }
+            Call::HandOver { point, trader } => {
+                let told = slips.hand_over(station, sheet, point as usize, trader);
+                tell_correction(line, Kind::HandOver, point, Some(trader), told, report)?;
+            }
+            Call::Withdraw { point } => {
+                let told = slips.withdraw(station.ledger(), sheet, point as usize);
+                tell_slip(line, Kind::Withdraw, point, told, report)?;
+            }
+            _ => return Err(Trouble::LedgerAgain),
+        }
+        Ok(())
     }
 
     // Plays a call that leaves the running day as it is.
@@ -410,17 +448,32 @@ impl Player {
         }
     }
 
-    // The closing report: the accounts, the correction account and the balance. A day that still runs is named and abandoned.
-    pub fn close(&self, station: Station, report: &mut Report) -> Result<(), Trouble> {
+    // The closing report: the accounts, the correction account and the balance. Slips that are still open are named and withdrawn, and a
+    // day that still runs is named and abandoned.
+    pub fn close(&mut self, station: Station, slips: Slips, report: &mut Report) -> (Result<(), Trouble>, Result<(), Slips>) {
+        let points = station.ledger().counts().points;
+        let named = written(tell_open_slips(&slips, points, report));
         let (station, told) = station.abandon();
         let ledger = station.close();
+        let ended = self.end_slips(&ledger, slips);
+        if named.is_err() {
+            return (named, ended);
+        }
+        (written(self.tell_closing(&ledger, told, report)), ended)
+    }
+
+    // Withdraws every slip that is still open.
+    pub fn end_slips(&mut self, ledger: &Ledger, slips: Slips) -> Result<(), Slips> {
+        slips.end(ledger, self.sheet.as_mut_slice())
+    }
+
+    fn tell_closing(&self, ledger: &Ledger, told: Result<u32, Refusal>, report: &mut Report) -> Result<(), AllocError> {
         if let Ok(opening) = told {
             report.closing("abandon")?;
             report.field("opening", opening as u64)?;
             report.end()?;
         }
-        self.tell_accounts(&ledger, report)?;
-        Ok(())
+        self.tell_accounts(ledger, report)
     }
 
     fn tell_accounts(&self, ledger: &Ledger, report: &mut Report) -> Result<(), AllocError> {
@@ -466,6 +519,55 @@ impl Player {
         }
         report.end()
     }
+}
+
+// The line of a call that tells the number of a point's slip.
+fn tell_slip(line: u64, kind: Kind, point: u32, told: Result<u32, Refusal>, report: &mut Report) -> Result<(), AllocError> {
+    report.call(line, kind)?;
+    match told {
+        Ok(number) => {
+            report.field("point", point as u64)?;
+            report.field("slip", number as u64)?;
+        }
+        Err(why) => report.refused(why)?,
+    }
+    report.end()
+}
+
+// The line of a call that books a reading, with the trader who then has the point where it was handed over.
+fn tell_correction(
+    line: u64,
+    kind: Kind,
+    point: u32,
+    trader: Option<u32>,
+    told: Result<i64, Refusal>,
+    report: &mut Report,
+) -> Result<(), AllocError> {
+    report.call(line, kind)?;
+    match told {
+        Ok(correction) => {
+            report.field("point", point as u64)?;
+            if let Some(trader) = trader {
+                report.field("trader", trader as u64)?;
+            }
+            report.signed_field("correction", correction as i128)?;
+        }
+        Err(why) => report.refused(why)?,
+    }
+    report.end()
+}
+
+// A closing line for each open slip, by its point.
+fn tell_open_slips(slips: &Slips, points: usize, report: &mut Report) -> Result<(), AllocError> {
+    for point in 0..points {
+        if let Some(number) = slips.number(point) {
+            report.closing("withdraw")?;
+            report.field("point", point as u64)?;
+            report.field("slip", number as u64)?;
+            report.end()?;
+        }
+    }
+    Ok(())
 }
 
 fn written(done: Result<(), AllocError>) -> Result<(), Trouble> {

@@ -9,6 +9,7 @@ use ledger::Particulars;
 use ledger::Point;
 use ledger::Refused;
 use ledger::SharedOut;
+use ledger::Slip;
 use profiles::Profile;
 use profiles::in_range;
 use refusals::Refusal;
@@ -52,6 +53,21 @@ impl Station {
 
     pub fn admit_point(&mut self, sheet: &mut [Point], given: Particulars) -> Result<usize, Refusal> {
         self.ledger.admit_point(sheet, given)
+    }
+
+    // Reads a point.
+    pub fn read(&mut self, sheet: &mut [Point], point: usize, reading: u32) -> Result<Slip, Refusal> {
+        self.ledger.read(sheet, point, reading)
+    }
+
+    // Books a slip: the correction.
+    pub fn book(&mut self, sheet: &mut [Point], slip: Slip) -> Result<i64, Refused<Slip>> {
+        self.ledger.book(sheet, slip)
+    }
+
+    // Hands a slip's point over: the correction.
+    pub fn hand_over(&mut self, sheet: &mut [Point], slip: Slip, trader: u32) -> Result<i64, Refused<Slip>> {
+        self.ledger.hand_over(sheet, slip, trader)
     }
 
     // Opens a day: its number by openings.
