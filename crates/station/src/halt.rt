@@ -1,9 +1,12 @@
 // Why the playing of a journal stopped.
 use journal::fault::Fault;
 use journal::fault::FaultDisplay;
+use player::slips::Slips;
 use player::trouble::Trouble;
 use player::trouble::TroubleDisplay;
+use std::error::AnyError;
 use std::fmt;
+use std::io;
 
 #[derive(Clone, Copy)]
 pub enum Halt {
@@ -33,5 +36,24 @@ pub impl fmt::Display for Halt as HaltDisplay {
             Halt::Memory => f.write_str("no memory left"),
             Halt::Output => f.write_str("standard output cannot be written"),
         }
+    }
+}
+
+// Why the program ends with an error. A slip cannot be let go, so one that the ledger would not take back, which does not happen to a
+// ledger's own, goes out with the program.
+pub enum Stop {
+    Error(AnyError),
+    Unended(Slips),
+}
+
+pub impl From<AnyError> for Stop as StopFromAny {
+    fn from(e: AnyError) -> Stop {
+        Stop::Error(e)
+    }
+}
+
+pub impl From<io::Error> for Stop as StopFromIo {
+    fn from(e: io::Error) -> Stop {
+        Stop::Error(e.into())
     }
 }

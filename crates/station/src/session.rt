@@ -1,5 +1,6 @@
 // The lines of a journal, one after the other.
 use crate::halt::Halt;
+use crate::halt::Stop;
 use journal::call::Call;
 use journal::call::parse;
 use journal::lines::SheetFault;
@@ -9,9 +10,9 @@ use journal::words::split;
 use journal::words::uncommented;
 use player::player::Player;
 use player::report::Report;
+use player::slips::Slips;
 use player::station::Station;
 use player::trouble::Trouble;
-use std::error::AnyError;
 use std::fs;
 use std::io::ErrorKind;
 use std::io::Write;
@@ -121,6 +122,7 @@ fn step<'a>(
     number: u64,
     words: &mut Vec<&'a [u8]>,
     station: Station,
+    slips: &mut Slips,
     player: &mut Player,
     report: &mut Report,
 ) -> (Station, Halt) {
@@ -133,7 +135,7 @@ fn step<'a>(
         Ok(numbers) => numbers,
         Err(halt) => return (station, halt),
     };
-    let (station, done) = player.play(station, number, call, numbers, report);
+    let (station, done) = player.play(station, number, slips, call, numbers, report);
     match done {
         Err(trouble) => (station, Halt::Place(trouble)),
         Ok(()) if report.as_bytes().len() < FULL => (station, Halt::None),
@@ -154,14 +156,15 @@ fn play_on<'a>(
     station: Station,
     player: &mut Player,
     report: &mut Report,
-) -> Played<'a> {
+) -> (Played<'a>, Result<(), Slips>) {
     let mut station = station;
+    let mut slips = Slips::new(rt.alloc());
     let mut rest = text;
     let mut played = began;
     while !rest.is_empty() {
         let (line, behind) = cut_line(rest);
         let number = played.line.saturating_add(1);
-        let (next, halt) = step(rt, journal, line, number, words, station, player, report);
+        let (next, halt) = step(rt, journal, line, number, words, station, &mut slips, player, report);
         station = next;
         played = Played { line: number, text: line, halt };
         rest = match halt {
@@ -170,37 +173,45 @@ fn play_on<'a>(
         };
     }
     match played.halt {
-        Halt::None => match player.close(station, report) {
-            Ok(()) => played,
-            Err(trouble) => Played { line: played.line, text: played.text, halt: Halt::Place(trouble) },
-        },
+        Halt::None => {
+            let (done, left) = player.close(station, slips, report);
+            match done {
+                Ok(()) => (played, left),
+                Err(trouble) => (Played { line: played.line, text: played.text, halt: Halt::Place(trouble) }, left),
+            }
+        }
         _ => {
-            let _ledger = station.close();
-            played
+            let ledger = station.close();
+            (played, player.end_slips(&ledger, slips))
         }
     }
 }
 
 // Plays a journal and prints what its calls were told.
-pub fn play<'a>(
-    rt: &LibcRuntime,
-    journal: &Option<String>,
-    text: &'a [u8],
-    csv: bool,
-) -> Result<Played<'a>, AnyError> {
+pub fn play<'a>(rt: &LibcRuntime, journal: &Option<String>, text: &'a [u8], csv: bool) -> Result<Played<'a>, Stop> {
     let heap = rt.alloc();
     let mut words = Vec::new(heap);
     let mut report = Report::new(heap, csv);
-    let mut player = Player::new(heap)?;
-    let (began, first_day, rest) = begin(text, &mut words);
-    let played = match began.halt {
-        Halt::None => {
-            player.tell_ledger(began.line, first_day, &mut report)?;
-            let station = Station::new(first_day);
-            play_on(rt, journal, began, rest, &mut words, station, &mut player, &mut report)
-        }
-        _ => began,
+    let mut player = match Player::new(heap) {
+        Ok(player) => player,
+        Err(_) => return Ok(Played { line: 0, text: b"", halt: Halt::Memory }),
     };
-    rt.stdout().write_all(report.as_bytes())?;
-    Ok(played)
+    let (began, first_day, rest) = begin(text, &mut words);
+    let (played, left) = match began.halt {
+        Halt::None => match player.tell_ledger(began.line, first_day, &mut report) {
+            Ok(()) => {
+                let station = Station::new(first_day);
+                play_on(rt, journal, began, rest, &mut words, station, &mut player, &mut report)
+            }
+            Err(_) => (Played { line: began.line, text: began.text, halt: Halt::Memory }, Ok(())),
+        },
+        _ => (began, Ok(())),
+    };
+    if let Err(slips) = left {
+        return Err(Stop::Unended(slips));
+    }
+    match flush(rt, &mut report) {
+        Ok(()) => Ok(played),
+        Err(halt) => Ok(Played { line: played.line, text: played.text, halt }),
+    }
 }
