@@ -1,0 +1,6 @@
+mod Values
+mod Cuts
+mod Finds
+mod Eachs
+mod Texts
+mod Decimals

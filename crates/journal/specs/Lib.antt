@@ -1,0 +1,4 @@
+pub mod Words
+pub mod Vocabulary
+pub mod Numbers
+pub mod Calls

@@ -1,0 +1,225 @@
+// A ledger with the one day that runs on it. The day's token is held here, so that a journal need not name it.
+ghost use mathlib.Core.Bool.{true};
+ghost use mathlib.Core.Path.{_≡_};
+ghost use Rattle.player.specs.Running.{tied};
+use ledger::Ledger;
+use ledger::MeasuredDay;
+use ledger::OpenDay;
+use ledger::Particulars;
+use ledger::Point;
+use ledger::Refused;
+use ledger::SharedOut;
+use ledger::Slip;
+use profiles::Profile;
+use profiles::in_range;
+use refusals::Refusal;
+use shares::ShareRule;
+
+// The running day.
+pub enum Running {
+    Idle,
+    Open(OpenDay),
+    Measured(MeasuredDay),
+}
+
+pub struct Station {
+    ledger: Ledger,
+    running: Running,
+    ghost tied: { tied (ledger .book .phase) running ≡ true },
+}
+
+// The most litres that a call takes, and the largest loss rate, in millionths.
+const MAX_LITRES: u64 = 1_000_000_000;
+
+const MAX_RATE: u32 = 1_000_000;
+
+const MAX_PLACES: usize = 4096;
+
+impl Station {
+    pub fn new(first_day: u32) -> Station {
+        Station {
+            ledger: Ledger::new(first_day),
+            running: Running::Idle,
+        }
+    }
+
+    pub fn ledger(&self) -> &Ledger {
+        &self.ledger
+    }
+
+    pub fn admit_trader(&mut self) -> Result<u32, Refusal> {
+        self.ledger.admit_trader()
+    }
+
+    pub fn admit_point(&mut self, sheet: &mut [Point], given: Particulars) -> Result<usize, Refusal> {
+        self.ledger.admit_point(sheet, given)
+    }
+
+    // Reads a point.
+    pub fn read(&mut self, sheet: &mut [Point], point: usize, reading: u32) -> Result<Slip, Refusal> {
+        self.ledger.read(sheet, point, reading)
+    }
+
+    // Books a slip: the correction.
+    pub fn book(&mut self, sheet: &mut [Point], slip: Slip) -> Result<i64, Refused<Slip>> {
+        self.ledger.book(sheet, slip)
+    }
+
+    // Hands a slip's point over: the correction.
+    pub fn hand_over(&mut self, sheet: &mut [Point], slip: Slip, trader: u32) -> Result<i64, Refused<Slip>> {
+        self.ledger.hand_over(sheet, slip, trader)
+    }
+
+    // Opens a day: its number by openings.
+    pub fn open(self, temperature: i16, season: u8) -> (Station, Result<u32, Refusal>) {
+        let Station { mut ledger, running } = self;
+        match running {
+            Running::Idle => match ledger.open(temperature, season) {
+                Ok(day) => {
+                    let number = day.number();
+                    let running = Running::Open(day);
+                    (Station { ledger, running }, Ok(number))
+                }
+                Err(why) => {
+                    let running = Running::Idle;
+                    (Station { ledger, running }, Err(why))
+                }
+            },
+            running => {
+                let why = if in_range(temperature, season) {
+                    Refusal::DayRunning
+                } else {
+                    Refusal::Weather
+                };
+                (Station { ledger, running }, Err(why))
+            }
+        }
+    }
+
+    // Enters metered litres into the open day: the trader's metered sum of the day.
+    pub fn enter(&mut self, trader: u32, litres: u64) -> Result<u64, Refusal> {
+        match &self.running {
+            Running::Open(day) => {
+                self.ledger.enter(day, trader, litres)?;
+                self.ledger.metered(trader)
+            }
+            _ => Err(self.not_open(trader, litres)),
+        }
+    }
+
+    // Why litres cannot be entered where no day is open.
+    fn not_open(&self, trader: u32, litres: u64) -> Refusal {
+        if trader >= self.ledger.counts().traders {
+            Refusal::NoSuchTrader
+        } else if litres > MAX_LITRES {
+            Refusal::Litres
+        } else {
+            Refusal::NotRunning
+        }
+    }
+
+    // Takes the open day's inflow: its number by openings.
+    pub fn take_inflow(self, litres: u64, rate: u32) -> (Station, Result<u32, Refusal>) {
+        let Station { mut ledger, running } = self;
+        match running {
+            Running::Open(day) => {
+                let number = day.number();
+                match ledger.take_inflow(day, litres, rate) {
+                    Ok(day) => {
+                        let running = Running::Measured(day);
+                        (Station { ledger, running }, Ok(number))
+                    }
+                    Err(back) => {
+                        let Refused { why, token } = back;
+                        let running = Running::Open(token);
+                        (Station { ledger, running }, Err(why))
+                    }
+                }
+            }
+            running => {
+                let why = if litres > MAX_LITRES || rate > MAX_RATE {
+                    Refusal::Litres
+                } else {
+                    Refusal::NotRunning
+                };
+                (Station { ledger, running }, Err(why))
+            }
+        }
+    }
+
+    // Shares the measured day out.
+    pub fn share<P: Profile, R: ShareRule>(
+        self,
+        sheet: &mut [Point],
+        profile: &P,
+        rule: &R,
+        uses: &mut [u64],
+        shares: &mut [u64],
+    ) -> (Station, Result<SharedOut, Refusal>) {
+        let Station { mut ledger, running } = self;
+        match running {
+            Running::Measured(day) => match ledger.share_out(day, sheet, profile, rule, uses, shares) {
+                Ok(told) => {
+                    let running = Running::Idle;
+                    (Station { ledger, running }, Ok(told))
+                }
+                Err(back) => {
+                    let Refused { why, token } = back;
+                    let running = Running::Measured(token);
+                    (Station { ledger, running }, Err(why))
+                }
+            },
+            running => {
+                let why = if sheet.len() > MAX_PLACES {
+                    Refusal::PointSheetLength
+                } else {
+                    Refusal::NotRunning
+                };
+                (Station { ledger, running }, Err(why))
+            }
+        }
+    }
+
+    // Ends the running day: its number by openings.
+    pub fn abandon(self) -> (Station, Result<u32, Refusal>)
+        ensures idle { λ r. ⌜ r .0 .running ≡ Running.Idle ⌝ }
+    {
+        let Station { mut ledger, running } = self;
+        match running {
+            Running::Idle => {
+                let running = Running::Idle;
+                (Station { ledger, running }, Err(Refusal::NotRunning))
+            }
+            Running::Open(day) => {
+                let number = day.number();
+                match ledger.abandon_open(day) {
+                    Ok(()) => {
+                        let running = Running::Idle;
+                        (Station { ledger, running }, Ok(number))
+                    }
+                    Err(back) => unreachable(),
+                }
+            }
+            Running::Measured(day) => {
+                let number = day.number();
+                match ledger.abandon_measured(day) {
+                    Ok(()) => {
+                        let running = Running::Idle;
+                        (Station { ledger, running }, Ok(number))
+                    }
+                    Err(back) => unreachable(),
+                }
+            }
+        }
+    }
+
+    // The ledger, its running day ended.
+    pub fn close(self) -> Ledger {
+        let (station, _) = self.abandon();
+        let Station { ledger, running } = station;
+        match running {
+            Running::Idle => ledger,
+            _ => unreachable(),
+        }
+    }
+}
