@@ -24,7 +24,7 @@ struct Asked {
     path: Option<String>,
 }
 
-fn asked(rt: &LibcRuntime) -> Result<Asked, AnyError> {
+fn read_args(rt: &LibcRuntime) -> Result<Asked, AnyError> {
     let mut asked = Asked {
         help: false,
         csv: false,
@@ -47,8 +47,15 @@ fn asked(rt: &LibcRuntime) -> Result<Asked, AnyError> {
     Ok(asked)
 }
 
+fn file_name(path: &Option<String>) -> &str {
+    match path {
+        Some(path) => path.as_str(),
+        None => "standard input",
+    }
+}
+
 // Tells where the journal stopped: the file, the line, the line itself and the reason.
-fn complain(rt: &LibcRuntime, file: &str, played: &Played<'_>) -> Result<(), AnyError> {
+fn complain(rt: &LibcRuntime, file: &str, played: Played<'_>) -> Result<(), AnyError> {
     let heap = rt.alloc();
     let line = played.line;
     let why = played.halt;
@@ -56,7 +63,7 @@ fn complain(rt: &LibcRuntime, file: &str, played: &Played<'_>) -> Result<(), Any
     for b in played.text.iter().take(120) {
         text.push(if *b < 32 || *b > 126 { b'?' } else { *b })?;
     }
-    let mut message = format!(heap, "station: {file}:{line}: {why}\n    ")?;
+    let message = format!(heap, "station: {file}:{line}: {why}\n    ")?;
     rt.stderr().write_all(message.as_bytes())?;
     rt.stderr().write_all(text.as_slice())?;
     rt.stderr().write_all(b"\n")?;
@@ -85,7 +92,7 @@ fn read_journal(rt: &LibcRuntime, path: &Option<String>) -> Result<Option<Vec<u8
 
 // Whether the journal was played to its end.
 fn run(rt: &LibcRuntime) -> Result<bool, AnyError> {
-    let asked = asked(rt)?;
+    let asked = read_args(rt)?;
     if asked.help {
         rt.stdout().write_all(HELP.as_bytes())?;
         return Ok(true);
@@ -97,15 +104,11 @@ fn run(rt: &LibcRuntime) -> Result<bool, AnyError> {
     let Some(text) = read_journal(rt, &asked.path)? else {
         return Ok(false);
     };
-    let file = match &asked.path {
-        Some(path) => path.as_str(),
-        None => "standard input",
-    };
     let played = play(rt, &asked.path, text.as_slice(), asked.csv)?;
     match played.halt {
         Halt::None => Ok(true),
         _ => {
-            complain(rt, file, &played)?;
+            complain(rt, file_name(&asked.path), played)?;
             Ok(false)
         }
     }
