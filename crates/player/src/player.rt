@@ -1,4 +1,10 @@
 // What a journal has set up beside the ledger, and the playing of its calls.
+ghost use mathlib.Core.Bool.{true};
+ghost use mathlib.Core.Path.{_≡_};
+ghost use Prim.Native.Nat.{_<_};
+ghost use Rattle.std.specs.Of.Vec.{vec-len};
+ghost use Rattle.std.specs.Vec.{made, refused};
+ghost use Rattle.player.specs.Running.{tied};
 use crate::recipe::Layer;
 use crate::recipe::Recipe;
 use crate::recipe::test_layer;
@@ -50,7 +56,11 @@ pub struct Player {
 }
 
 impl Player {
-    pub fn new(heap: Global) -> Result<Player, AllocError> {
+    // A sheet of 4,096 places and nothing else set up; the line of the first call is told.
+    pub fn begin(heap: Global, line: u64, first_day: u32, report: &mut Report) -> Result<Player, AllocError>
+        ensures { λ r. ⌜ made r (λ p. vec-len (p .sheet) ≡ 4096) ⌝ }
+    {
+        tell_ledger(line, first_day, report)?;
         Ok(Player {
             heap,
             sheet: vec![in heap; Point::UNUSED; PLACES]?,
@@ -62,13 +72,6 @@ impl Player {
             measured: 0,
             inflow: 0,
         })
-    }
-
-    // The line of the first call.
-    pub fn tell_ledger(&self, line: u64, first_day: u32, report: &mut Report) -> Result<(), AllocError> {
-        report.call(line, Kind::Ledger)?;
-        report.field("day", first_day as u64)?;
-        report.end()
     }
 
     fn find(&self, name: &[u8]) -> Option<&Recipe> {
@@ -336,7 +339,9 @@ impl Player {
         call: Call<'_>,
         numbers: Vec<u32>,
         report: &mut Report,
-    ) -> (Station, Result<(), Trouble>) {
+    ) -> (Station, Result<(), Trouble>)
+        ensures { λ r. ⌜ tied (r .0 .ledger .book .phase) (r .0 .running) ≡ true ⌝ }
+    {
         match call {
             Call::Open { .. } | Call::Inflow { .. } | Call::Share { .. } | Call::Abandon => {
                 self.play_day(station, line, call, report)
@@ -450,7 +455,9 @@ impl Player {
 
     // The closing report: the accounts, the correction account and the balance. Slips that are still open are named and withdrawn, and a
     // day that still runs is named and abandoned.
-    pub fn close(&mut self, station: Station, slips: Slips, report: &mut Report) -> (Result<(), Trouble>, Result<(), Slips>) {
+    pub fn close(&mut self, station: Station, slips: Slips, report: &mut Report) -> (Result<(), Trouble>, Result<(), Slips>)
+        ensures { λ r. ⌜ refused (r .1) (λ left. 0 < vec-len (left .open)) ⌝ }
+    {
         let points = station.ledger().counts().points;
         let named = written(tell_open_slips(&slips, points, report));
         let (station, told) = station.abandon();
@@ -463,7 +470,9 @@ impl Player {
     }
 
     // Withdraws every slip that is still open.
-    pub fn end_slips(&mut self, ledger: &Ledger, slips: Slips) -> Result<(), Slips> {
+    pub fn end_slips(&mut self, ledger: &Ledger, slips: Slips) -> Result<(), Slips>
+        ensures { λ r. ⌜ refused r (λ left. 0 < vec-len (left .open)) ⌝ }
+    {
         slips.end(ledger, self.sheet.as_mut_slice())
     }
 
@@ -519,6 +528,13 @@ impl Player {
         }
         report.end()
     }
+}
+
+// The line of the first call.
+fn tell_ledger(line: u64, first_day: u32, report: &mut Report) -> Result<(), AllocError> {
+    report.call(line, Kind::Ledger)?;
+    report.field("day", first_day as u64)?;
+    report.end()
 }
 
 // The line of a call that tells the number of a point's slip.

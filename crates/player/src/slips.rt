@@ -1,4 +1,6 @@
 // The slips of a journal's readings that are still open, so that a journal names them by their points.
+ghost use mathlib.Core.Path.{_≡_};
+ghost use Rattle.std.specs.Vec.{refused};
 ghost use Prim.Native.Nat.{_<_};
 ghost use Rattle.std.specs.Of.Vec.{vec-cap, vec-len};
 ghost use Rattle.std.specs.Slices.{found};
@@ -19,7 +21,10 @@ pub struct Slips {
 }
 
 impl Slips {
-    pub fn new(heap: Global) -> Slips {
+    // No slip is open yet.
+    pub fn new(heap: Global) -> Slips
+        ensures { λ r. ⌜ vec-len (r .open) ≡ 0 ⌝ }
+    {
         Slips {
             open: Vec::new(heap),
         }
@@ -36,7 +41,7 @@ impl Slips {
     }
 
     // The number of the point's open slip.
-    pub fn number(&self, point: usize) -> Option<u32> {
+    pub(crate) fn number(&self, point: usize) -> Option<u32> {
         for slip in self.open.iter() {
             if slip.point() == point {
                 return Some(slip.number());
@@ -56,7 +61,7 @@ impl Slips {
     }
 
     // Reads a point: the number of its slip.
-    pub fn read(
+    pub(crate) fn read(
         &mut self,
         station: &mut Station,
         sheet: &mut [Point],
@@ -75,7 +80,7 @@ impl Slips {
     }
 
     // Books the point's open slip: the correction.
-    pub fn book(&mut self, station: &mut Station, sheet: &mut [Point], point: usize) -> Result<i64, Refusal> {
+    pub(crate) fn book(&mut self, station: &mut Station, sheet: &mut [Point], point: usize) -> Result<i64, Refusal> {
         let Some(slip) = self.take(point) else {
             return Err(no_slip(station.ledger(), sheet.len(), point));
         };
@@ -89,7 +94,7 @@ impl Slips {
     }
 
     // Hands the point of an open slip over: the correction.
-    pub fn hand_over(
+    pub(crate) fn hand_over(
         &mut self,
         station: &mut Station,
         sheet: &mut [Point],
@@ -112,7 +117,7 @@ impl Slips {
     }
 
     // Withdraws the point's open slip: its number.
-    pub fn withdraw(&mut self, ledger: &Ledger, sheet: &mut [Point], point: usize) -> Result<u32, Refusal> {
+    pub(crate) fn withdraw(&mut self, ledger: &Ledger, sheet: &mut [Point], point: usize) -> Result<u32, Refusal> {
         let Some(slip) = self.take(point) else {
             return Err(no_slip(ledger, sheet.len(), point));
         };
@@ -127,7 +132,9 @@ impl Slips {
     }
 
     // Withdraws every slip that is still open. The ledger refuses none of its own; a slip that it did refuse comes back, since none can be let go.
-    pub fn end(self, ledger: &Ledger, sheet: &mut [Point]) -> Result<(), Slips> {
+    pub(crate) fn end(self, ledger: &Ledger, sheet: &mut [Point]) -> Result<(), Slips>
+        ensures { λ r. ⌜ refused r (λ left. 0 < vec-len (left .open)) ⌝ }
+    {
         let Slips { mut open } = self;
         while let Some(slip) = open.pop() {
             match ledger.withdraw(sheet, slip) {

@@ -1,4 +1,6 @@
 // A ledger with the one day that runs on it. The day's token is held here, so that a journal need not name it.
+ghost use Rattle.ledger.specs.Accounts.{newBook};
+ghost use Rattle.ledger.specs.Days.{isIdle};
 ghost use mathlib.Core.Bool.{true};
 ghost use mathlib.Core.Path.{_≡_};
 ghost use Rattle.player.specs.Running.{tied};
@@ -36,42 +38,45 @@ const MAX_RATE: u32 = 1_000_000;
 const MAX_PLACES: usize = 4096;
 
 impl Station {
-    pub fn new(first_day: u32) -> Station {
+    // A new ledger, on which no day runs.
+    pub fn new(first_day: u32) -> Station
+        ensures { λ r. ⌜ r .ledger .book ≡ newBook «first_day» ⌝ }
+    {
         Station {
             ledger: Ledger::new(first_day),
             running: Running::Idle,
         }
     }
 
-    pub fn ledger(&self) -> &Ledger {
+    pub(crate) fn ledger(&self) -> &Ledger {
         &self.ledger
     }
 
-    pub fn admit_trader(&mut self) -> Result<u32, Refusal> {
+    pub(crate) fn admit_trader(&mut self) -> Result<u32, Refusal> {
         self.ledger.admit_trader()
     }
 
-    pub fn admit_point(&mut self, sheet: &mut [Point], given: Particulars) -> Result<usize, Refusal> {
+    pub(crate) fn admit_point(&mut self, sheet: &mut [Point], given: Particulars) -> Result<usize, Refusal> {
         self.ledger.admit_point(sheet, given)
     }
 
     // Reads a point.
-    pub fn read(&mut self, sheet: &mut [Point], point: usize, reading: u32) -> Result<Slip, Refusal> {
+    pub(crate) fn read(&mut self, sheet: &mut [Point], point: usize, reading: u32) -> Result<Slip, Refusal> {
         self.ledger.read(sheet, point, reading)
     }
 
     // Books a slip: the correction.
-    pub fn book(&mut self, sheet: &mut [Point], slip: Slip) -> Result<i64, Refused<Slip>> {
+    pub(crate) fn book(&mut self, sheet: &mut [Point], slip: Slip) -> Result<i64, Refused<Slip>> {
         self.ledger.book(sheet, slip)
     }
 
     // Hands a slip's point over: the correction.
-    pub fn hand_over(&mut self, sheet: &mut [Point], slip: Slip, trader: u32) -> Result<i64, Refused<Slip>> {
+    pub(crate) fn hand_over(&mut self, sheet: &mut [Point], slip: Slip, trader: u32) -> Result<i64, Refused<Slip>> {
         self.ledger.hand_over(sheet, slip, trader)
     }
 
     // Opens a day: its number by openings.
-    pub fn open(self, temperature: i16, season: u8) -> (Station, Result<u32, Refusal>) {
+    pub(crate) fn open(self, temperature: i16, season: u8) -> (Station, Result<u32, Refusal>) {
         let Station { mut ledger, running } = self;
         match running {
             Running::Idle => match ledger.open(temperature, season) {
@@ -97,7 +102,7 @@ impl Station {
     }
 
     // Enters metered litres into the open day: the trader's metered sum of the day.
-    pub fn enter(&mut self, trader: u32, litres: u64) -> Result<u64, Refusal> {
+    pub(crate) fn enter(&mut self, trader: u32, litres: u64) -> Result<u64, Refusal> {
         match &self.running {
             Running::Open(day) => {
                 self.ledger.enter(day, trader, litres)?;
@@ -119,7 +124,7 @@ impl Station {
     }
 
     // Takes the open day's inflow: its number by openings.
-    pub fn take_inflow(self, litres: u64, rate: u32) -> (Station, Result<u32, Refusal>) {
+    pub(crate) fn take_inflow(self, litres: u64, rate: u32) -> (Station, Result<u32, Refusal>) {
         let Station { mut ledger, running } = self;
         match running {
             Running::Open(day) => {
@@ -148,7 +153,7 @@ impl Station {
     }
 
     // Shares the measured day out.
-    pub fn share<P: Profile, R: ShareRule>(
+    pub(crate) fn share<P: Profile, R: ShareRule>(
         self,
         sheet: &mut [Point],
         profile: &P,
@@ -181,7 +186,7 @@ impl Station {
     }
 
     // Ends the running day: its number by openings.
-    pub fn abandon(self) -> (Station, Result<u32, Refusal>)
+    pub(crate) fn abandon(self) -> (Station, Result<u32, Refusal>)
         ensures idle { λ r. ⌜ r .0 .running ≡ Running.Idle ⌝ }
     {
         let Station { mut ledger, running } = self;
@@ -214,7 +219,9 @@ impl Station {
     }
 
     // The ledger, its running day ended.
-    pub fn close(self) -> Ledger {
+    pub fn close(self) -> Ledger
+        ensures { λ r. ⌜ isIdle (r .book .phase) ≡ true ⌝ }
+    {
         let (station, _) = self.abandon();
         let Station { ledger, running } = station;
         match running {

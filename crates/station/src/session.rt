@@ -192,14 +192,10 @@ pub fn play<'a>(rt: &LibcRuntime, journal: &Option<String>, text: &'a [u8], csv:
     let heap = rt.alloc();
     let mut words = Vec::new(heap);
     let mut report = Report::new(heap, csv);
-    let mut player = match Player::new(heap) {
-        Ok(player) => player,
-        Err(_) => return Ok(Played { line: 0, text: b"", halt: Halt::Memory }),
-    };
     let (began, first_day, rest) = begin(text, &mut words);
     let (played, left) = match began.halt {
-        Halt::None => match player.tell_ledger(began.line, first_day, &mut report) {
-            Ok(()) => {
+        Halt::None => match Player::begin(heap, began.line, first_day, &mut report) {
+            Ok(mut player) => {
                 let station = Station::new(first_day);
                 play_on(rt, journal, began, rest, &mut words, station, &mut player, &mut report)
             }
