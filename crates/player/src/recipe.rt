@@ -23,15 +23,15 @@ enum Base {
 
 // The season numbers of one segment.
 #[derive(Drop)]
-pub struct Layer {
-    pub segment: u32,
-    pub numbers: Vec<u32>,
+pub(crate) struct Layer {
+    pub(crate) segment: u32,
+    pub(crate) numbers: Vec<u32>,
 }
 
 // A profile is made anew for each share-out, from the sheets that were tested when it was named: a profile has no copy, and a layer
 // takes over the profile below it.
 #[derive(Drop)]
-pub struct Recipe {
+pub(crate) struct Recipe {
     base: Base,
     lower: Option<Layer>,
     upper: Option<Layer>,
@@ -64,7 +64,7 @@ fn copy_layer(layer: &Option<Layer>) -> Result<Option<Layer>, AllocError> {
 }
 
 impl Recipe {
-    pub fn table(numbers: Vec<u32>) -> Result<Recipe, Refusal> {
+    pub(crate) fn table(numbers: Vec<u32>) -> Result<Recipe, Refusal> {
         let _tested = table(numbers.as_slice())?;
         Ok(Recipe {
             base: Base::Table(numbers),
@@ -73,7 +73,7 @@ impl Recipe {
         })
     }
 
-    pub fn even(factor: u32) -> Result<Recipe, Refusal> {
+    pub(crate) fn even(factor: u32) -> Result<Recipe, Refusal> {
         let _tested = EvenProfile::new(factor)?;
         Ok(Recipe {
             base: Base::Even(factor),
@@ -83,7 +83,7 @@ impl Recipe {
     }
 
     // How many segments the profile serves.
-    pub fn segments(&self) -> u32 {
+    pub(crate) fn segments(&self) -> u32 {
         match &self.base {
             Base::Table(_) => TableProfile::SEGMENTS,
             Base::Even(_) => EvenProfile::SEGMENTS,
@@ -98,12 +98,12 @@ impl Recipe {
     }
 
     // Whether another layer may stand over it.
-    pub fn has_room(&self) -> bool {
+    pub(crate) fn has_room(&self) -> bool {
         self.upper.is_none()
     }
 
     // The same profile with one layer more, which takes the place that is free.
-    pub fn under(&self, layer: Layer) -> Result<Recipe, AllocError> {
+    pub(crate) fn under(&self, layer: Layer) -> Result<Recipe, AllocError> {
         let base = self.copy_base()?;
         let lower = copy_layer(&self.lower)?;
         if lower.is_some() {
@@ -122,7 +122,7 @@ impl Recipe {
     }
 
     // Shares the measured day out by this profile.
-    pub fn share<R: ShareRule>(
+    pub(crate) fn share<R: ShareRule>(
         &self,
         station: Station,
         rule: &R,
@@ -180,7 +180,7 @@ impl Recipe {
 }
 
 // Whether a season layer can be made: its segment, then its numbers.
-pub fn test_layer(layer: &Layer) -> Result<(), Refusal> {
+pub(crate) fn test_layer(layer: &Layer) -> Result<(), Refusal> {
     let below = EvenProfile::new(0)?;
     let _tested = layered(below, layer)?;
     Ok(())
