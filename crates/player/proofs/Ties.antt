@@ -34,3 +34,8 @@ handed (Some w) token x back new old after run is e t =
 pub went : {A T : Type 0} (f : Option Refusal) (token : T) (x y : A) (new old after : Book) (day : Running) → Ok y ≡ handedBack f token x → after ≡ unless f new old → tied (new .phase) day ≡ true → tied (after .phase) day ≡ true
 went None token x y new old after day is e t = ap (λ (b : Book). tied (b .phase) day) e ∙ t
 went (Some w) token x y new old after day is e t = absurd (let z : _≡_ {A = ℕ} 0 1 = cc in let q : ⊥ = omega arith in q)
+
+-- a refusal is told whatever else would have been
+pub told : {A B : Type 0} (f : Option Refusal) (x : A) (y : B) (why : Refusal) → Err why ≡ answered f x → Err why ≡ answered f y
+told None x y why is = absurd (let z : _≡_ {A = ℕ} 0 1 = cc in let q : ⊥ = omega arith in q)
+told (Some w) x y why is = let same : why ≡ w = cc in ap (λ (v : Refusal). Err v) same

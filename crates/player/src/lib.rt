@@ -1,6 +1,6 @@
 // Plays the calls of a journal on one ledger, and writes down what each was told.
 pub mod player;
-pub mod recipe;
+mod recipe;
 pub mod report;
 pub mod slips;
 pub mod station;

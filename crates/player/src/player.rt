@@ -56,16 +56,19 @@ pub struct Player {
 }
 
 impl Player {
-    // A sheet of 4,096 places and nothing else set up; the line of the first call is told.
+    // Nothing set up yet but a sheet of 4,096 unused places; the line of the first call is told.
     pub fn begin(heap: Global, line: u64, first_day: u32, report: &mut Report) -> Result<Player, AllocError>
         ensures { λ r. ⌜ made r (λ p. vec-len (p .sheet) ≡ 4096) ⌝ }
     {
         tell_ledger(line, first_day, report)?;
+        let uses = vec![in heap; 0; PLACES]?;
+        let shares = vec![in heap; 0; PLACES]?;
+        let sheet = vec![in heap; Point::UNUSED; PLACES]?;
         Ok(Player {
             heap,
-            sheet: vec![in heap; Point::UNUSED; PLACES]?,
-            uses: vec![in heap; 0; PLACES]?,
-            shares: vec![in heap; 0; PLACES]?,
+            sheet,
+            uses,
+            shares,
             unset: true,
             profiles: Vec::new(heap),
             traders: Vec::new(heap),

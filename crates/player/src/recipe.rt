@@ -23,15 +23,15 @@ enum Base {
 
 // The season numbers of one segment.
 #[derive(Drop)]
-pub struct Layer {
-    pub segment: u32,
-    pub numbers: Vec<u32>,
+pub(crate) struct Layer {
+    pub(crate) segment: u32,
+    pub(crate) numbers: Vec<u32>,
 }
 
 // A profile is made anew for each share-out, from the sheets that were tested when it was named: a profile has no copy, and a layer
 // takes over the profile below it.
 #[derive(Drop)]
-pub struct Recipe {
+pub(crate) struct Recipe {
     base: Base,
     lower: Option<Layer>,
     upper: Option<Layer>,

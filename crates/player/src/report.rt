@@ -3,7 +3,8 @@ ghost use mathlib.Core.List.{_∷_, _++_, []};
 ghost use mathlib.Core.Path.{_≡_};
 ghost use Rattle.std.specs.Of.Vec.{vec-items};
 ghost use Rattle.std.specs.Vec.{made};
-ghost use Rattle.std.specs.Written.{decimal, signed};
+ghost use Rattle.std.specs.Written.{decimal};
+ghost use Rattle.player.specs.Printed.{Adds, separator, fieldOf, pointLine};
 use journal::kind::Kind;
 use journal::kind::KindWorded;
 use journal::kind::Worded;
@@ -21,9 +22,9 @@ pub struct Report {
 }
 
 impl Report {
-    // Nothing to print yet.
     pub fn new(heap: Global, csv: bool) -> Report
-        ensures { λ r. ⌜ vec-items (r .bytes) ≡ [] ⌝ }
+        ensures empty { λ r. ⌜ vec-items (r .bytes) ≡ [] ⌝ }
+        ensures form { λ r. ⌜ r .csv ≡ csv ⌝ }
     {
         Report {
             heap,
@@ -32,44 +33,53 @@ impl Report {
         }
     }
 
-    // What is to be printed.
     pub fn as_bytes(&self) -> &[u8]
         ensures { λ r. ⌜ now r ≡ vec-items (now (self .entry) .bytes) ⌝ }
     {
         self.bytes.as_slice()
     }
 
-    // Forgets what was printed.
     pub fn clear(&mut self)
-        ensures { λ _. ⌜ vec-items (now (self .exit) .bytes) ≡ [] ⌝ }
+        ensures empty { λ r. ⌜ vec-items (now (self .exit) .bytes) ≡ [] ⌝ }
+        ensures form { λ r. ⌜ now (self .exit) .csv ≡ now (self .entry) .csv ⌝ }
     {
         self.bytes.clear();
     }
 
-    fn separate(&mut self) -> Result<(), AllocError> {
+    fn separate(&mut self) -> Result<(), AllocError>
+        ensures { λ r. ⌜ made r (λ _. Adds (now (self .entry)) (now (self .exit)) ((separator (now (self .entry) .csv) ∷ []))) ⌝ }
+    {
         self.bytes.push(if self.csv { b',' } else { b' ' })?;
         Ok(())
     }
 
     // A field of text.
-    pub(crate) fn text(&mut self, text: &[u8]) -> Result<(), AllocError> {
+    pub(crate) fn text(&mut self, text: &[u8]) -> Result<(), AllocError>
+        ensures { λ r. ⌜ made r (λ _. Adds (now (self .entry)) (now (self .exit)) ((separator (now (self .entry) .csv) ∷ now (text .entry)))) ⌝ }
+    {
         self.separate()?;
         self.bytes.extend_from_slice(text)
     }
 
-    pub(crate) fn number(&mut self, n: u64) -> Result<(), AllocError> {
+    pub(crate) fn number(&mut self, n: u64) -> Result<(), AllocError>
+        ensures { λ r. ⌜ made r (λ _. Adds (now (self .entry)) (now (self .exit)) ((separator (now (self .entry) .csv) ∷ decimal n))) ⌝ }
+    {
         self.separate()?;
         put_number(&mut self.bytes, n)
     }
 
     // A field that names the next, and the number in that.
-    pub(crate) fn field(&mut self, name: &str, n: u64) -> Result<(), AllocError> {
+    pub(crate) fn field(&mut self, name: &str, n: u64) -> Result<(), AllocError>
+        ensures { λ r. ⌜ made r (λ _. Adds (now (self .entry)) (now (self .exit)) (fieldOf (now (self .entry) .csv) (now (name .entry)) n)) ⌝ }
+    {
         self.text(name.as_bytes())?;
         self.number(n)
     }
 
     // The line of a point in a share-out.
-    pub(crate) fn point(&mut self, line: u64, point: u64, consumption: u64, share: u64) -> Result<(), AllocError> {
+    pub(crate) fn point(&mut self, line: u64, point: u64, consumption: u64, share: u64) -> Result<(), AllocError>
+        ensures { λ r. ⌜ made r (λ _. Adds (now (self .entry)) (now (self .exit)) (pointLine (now (self .entry) .csv) line point consumption share)) ⌝ }
+    {
         put_number(&mut self.bytes, line)?;
         self.field("point", point)?;
         self.field("consumption", consumption)?;
@@ -114,7 +124,9 @@ impl Report {
         }
     }
 
-    pub(crate) fn end(&mut self) -> Result<(), AllocError> {
+    pub(crate) fn end(&mut self) -> Result<(), AllocError>
+        ensures { λ r. ⌜ made r (λ _. Adds (now (self .entry)) (now (self .exit)) ((10 ∷ []))) ⌝ }
+    {
         self.bytes.push(b'\n')?;
         Ok(())
     }

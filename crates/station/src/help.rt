@@ -26,3 +26,7 @@ accounts and the balance. --csv prints the same with commas.
 Status 0 where the journal was played to its end, refusals or not; 1 after an error.
 docs/JOURNAL.md has the whole format, and examples/ a journal to start from.
 ";
+
+// What is said of a journal that is not there.
+pub const MAKE_ONE: &str =
+    "A journal is a plain text file, one call a line. To make one: printf 'ledger 3561\\ntrader north\\n'";

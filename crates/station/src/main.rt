@@ -9,14 +9,19 @@ use halt::Stop;
 use halt::StopFromAny;
 use halt::StopFromIo;
 use help::HELP;
+use help::MAKE_ONE;
 use session::Played;
 use session::play;
+use std::alloc::Global;
 use std::env;
 use std::error::AnyError;
 use std::fs;
 use std::io::ErrorKind;
 use std::io::Read;
 use std::io::Write;
+
+// How much of a malformed line is shown.
+const LONGEST: usize = 200;
 
 // What the command line asks for.
 #[derive(Drop)]
@@ -57,19 +62,31 @@ fn file_name(path: &Option<String>) -> &str {
     }
 }
 
+// A line as it can be shown: not too long, and with a mark in place of what is no text.
+fn shown(heap: Global, line: &[u8]) -> Result<Vec<u8>, AnyError> {
+    let wide = std::str::from_utf8(line).is_ok() && line.len() <= LONGEST;
+    let mut text = Vec::from_slice(heap, b"    ")?;
+    for b in line.iter().take(LONGEST) {
+        let plain = *b >= 32 && *b < 127 || *b >= 128 && wide;
+        text.push(if plain { *b } else { b'?' })?;
+    }
+    text.push(b'\n')?;
+    Ok(text)
+}
+
 // Tells where the journal stopped: the file, the line, the line itself and the reason.
 fn complain(rt: &LibcRuntime, file: &str, played: Played<'_>) -> Result<(), AnyError> {
     let heap = rt.alloc();
     let line = played.line;
     let why = played.halt;
-    let mut text = Vec::new(heap);
-    for b in played.text.iter().take(120) {
-        text.push(if *b < 32 || *b > 126 { b'?' } else { *b })?;
+    match why {
+        Halt::Empty => eprintln!(rt, "station: {file}: {why}")?,
+        _ => {
+            let text = shown(heap, played.text)?;
+            eprintln!(rt, "station: {file}:{line}: {why}")?;
+            rt.stderr().write_all(text.as_slice())?;
+        }
     }
-    let message = format!(heap, "station: {file}:{line}: {why}\n    ")?;
-    rt.stderr().write_all(message.as_bytes())?;
-    rt.stderr().write_all(text.as_slice())?;
-    rt.stderr().write_all(b"\n")?;
     Ok(())
 }
 
@@ -86,7 +103,9 @@ fn read_journal(rt: &LibcRuntime, path: &Option<String>) -> Result<Option<Vec<u8
             Err(e) => {
                 let path = path.as_str();
                 eprintln!(rt, "station: {path}: {e}")?;
-                eprintln!(rt, "A journal is a plain text file, one call a line. To make one: printf 'ledger 3561\\ntrader north\\n' > {path}")?;
+                if let ErrorKind::NotFound = e.kind() {
+                    eprintln!(rt, "{MAKE_ONE} > {path}")?;
+                }
                 Ok(None)
             }
         },
