@@ -57,7 +57,12 @@ pub struct Player {
 
 impl Player {
     // Nothing set up yet but a sheet of 4,096 unused places; the line of the first call is told.
-    pub fn begin(heap: Global, line: u64, first_day: u32, report: &mut Report) -> Result<Player, AllocError>
+    pub fn begin(
+        heap: Global,
+        line: u64,
+        first_day: u32,
+        report: &mut Report,
+    ) -> Result<Player, AllocError>
         ensures { λ r. ⌜ made r (λ p. vec-len (p .sheet) ≡ 4096) ⌝ }
     {
         tell_ledger(line, first_day, report)?;
@@ -324,7 +329,9 @@ impl Player {
                 let (station, told) = match rule {
                     Rule::Running => profile.recipe.share(station, &Running, sheet, uses, shares),
                     Rule::Largest => {
-                        profile.recipe.share(station, &LargestRemainder, sheet, uses, shares)
+                        profile
+                            .recipe
+                            .share(station, &LargestRemainder, sheet, uses, shares)
                     }
                 };
                 return (station, Ok(told));
@@ -349,10 +356,11 @@ impl Player {
             Call::Open { .. } | Call::Inflow { .. } | Call::Share { .. } | Call::Abandon => {
                 self.play_day(station, line, call, report)
             }
-            Call::Read { .. } | Call::Book { .. } | Call::HandOver { .. } | Call::Withdraw { .. } => {
-                let done = self.play_reading(&mut station, line, slips, call, report);
-                (station, done)
-            }
+            Call::Read { .. } | Call::Book { .. } | Call::HandOver { .. } | Call::Withdraw { .. } =>
+                {
+                    let done = self.play_reading(&mut station, line, slips, call, report);
+                    (station, done)
+                }
             _ => {
                 let done = self.play_beside(&mut station, line, call, numbers, report);
                 (station, done)
@@ -403,14 +411,41 @@ impl Player {
     ) -> Result<(), Trouble> {
         match call {
             Call::Sheet { places } => self.set_sheet(line, places, report),
-            Call::Table { name, .. } => self.add_profile(line, name, Recipe::table(numbers), report),
-            Call::Even { name, factor } => self.add_profile(line, name, Recipe::even(factor), report),
-            Call::Season { name, segment, below, .. } => {
-                self.add_layer(line, name, below, Layer { segment, numbers }, report)
-            }
+            Call::Table { name, .. } => self.add_profile(
+                line,
+                name,
+                Recipe::table(numbers),
+                report,
+            ),
+            Call::Even { name, factor } => self.add_profile(
+                line,
+                name,
+                Recipe::even(factor),
+                report,
+            ),
+            Call::Season {
+                name,
+                segment,
+                below,
+                ..
+            } => { self.add_layer(line, name, below, Layer { segment, numbers }, report) }
             Call::Trader { name } => self.admit_trader(station, line, name, report),
-            Call::Point { trader, segment, digits, litres_per_unit, reading, scale_factor } => {
-                let given = Particulars { trader, segment, digits, litres_per_unit, reading, scale_factor };
+            Call::Point {
+                trader,
+                segment,
+                digits,
+                litres_per_unit,
+                reading,
+                scale_factor,
+            } => {
+                let given = Particulars {
+                    trader,
+                    segment,
+                    digits,
+                    litres_per_unit,
+                    reading,
+                    scale_factor,
+                };
                 self.admit_point(station, line, given, report)
             }
             Call::Enter { trader, litres } => {
@@ -419,7 +454,9 @@ impl Player {
                 Ok(())
             }
             Call::Quantity { trader } => {
-                let told = station.ledger().open_quantity(self.sheet.as_slice(), trader);
+                let told = station
+                    .ledger()
+                    .open_quantity(self.sheet.as_slice(), trader);
                 self.tell_litres(line, Kind::Quantity, trader, "litres", told, report)?;
                 Ok(())
             }
@@ -436,7 +473,10 @@ impl Player {
         report: &mut Report,
     ) -> (Station, Result<(), Trouble>) {
         match call {
-            Call::Open { temperature, season } => {
+            Call::Open {
+                temperature,
+                season,
+            } => {
                 let day = station.ledger().next_day();
                 let (station, told) = station.open(temperature, season);
                 (station, written(self.tell_open(line, told, day, report)))
@@ -446,19 +486,30 @@ impl Player {
                 if told.is_ok() {
                     self.measured = litres;
                 }
-                (station, written(self.tell_opening(line, Kind::Inflow, told, report)))
+                (
+                    station,
+                    written(self.tell_opening(line, Kind::Inflow, told, report)),
+                )
             }
             Call::Share { profile, rule } => self.share(station, line, profile, rule, report),
             _ => {
                 let (station, told) = station.abandon();
-                (station, written(self.tell_opening(line, Kind::Abandon, told, report)))
+                (
+                    station,
+                    written(self.tell_opening(line, Kind::Abandon, told, report)),
+                )
             }
         }
     }
 
     // The closing report: the accounts, the correction account and the balance. Slips that are still open are named and withdrawn, and a
     // day that still runs is named and abandoned.
-    pub fn close(&mut self, station: Station, slips: Slips, report: &mut Report) -> (Result<(), Trouble>, Result<(), Slips>)
+    pub fn close(
+        &mut self,
+        station: Station,
+        slips: Slips,
+        report: &mut Report,
+    ) -> (Result<(), Trouble>, Result<(), Slips>)
         ensures { λ r. ⌜ refused (r .1) (λ left. 0 < vec-len (left .open)) ⌝ }
     {
         let points = station.ledger().counts().points;
@@ -479,7 +530,12 @@ impl Player {
         slips.end(ledger, self.sheet.as_mut_slice())
     }
 
-    fn tell_closing(&self, ledger: &Ledger, told: Result<u32, Refusal>, report: &mut Report) -> Result<(), AllocError> {
+    fn tell_closing(
+        &self,
+        ledger: &Ledger,
+        told: Result<u32, Refusal>,
+        report: &mut Report,
+    ) -> Result<(), AllocError> {
         if let Ok(opening) = told {
             report.closing("abandon")?;
             report.field("opening", opening as u64)?;
@@ -541,7 +597,13 @@ fn tell_ledger(line: u64, first_day: u32, report: &mut Report) -> Result<(), All
 }
 
 // The line of a call that tells the number of a point's slip.
-fn tell_slip(line: u64, kind: Kind, point: u32, told: Result<u32, Refusal>, report: &mut Report) -> Result<(), AllocError> {
+fn tell_slip(
+    line: u64,
+    kind: Kind,
+    point: u32,
+    told: Result<u32, Refusal>,
+    report: &mut Report,
+) -> Result<(), AllocError> {
     report.call(line, kind)?;
     match told {
         Ok(number) => {

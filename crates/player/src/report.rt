@@ -77,7 +77,13 @@ impl Report {
     }
 
     // The line of a point in a share-out.
-    pub(crate) fn point(&mut self, line: u64, point: u64, consumption: u64, share: u64) -> Result<(), AllocError>
+    pub(crate) fn point(
+        &mut self,
+        line: u64,
+        point: u64,
+        consumption: u64,
+        share: u64,
+    ) -> Result<(), AllocError>
         ensures { λ r. ⌜ made r (λ _. Adds (now (self .entry)) (now (self .exit)) (pointLine (now (self .entry) .csv) line point consumption share)) ⌝ }
     {
         put_number(&mut self.bytes, line)?;

@@ -80,7 +80,12 @@ impl Slips {
     }
 
     // Books the point's open slip: the correction.
-    pub(crate) fn book(&mut self, station: &mut Station, sheet: &mut [Point], point: usize) -> Result<i64, Refusal> {
+    pub(crate) fn book(
+        &mut self,
+        station: &mut Station,
+        sheet: &mut [Point],
+        point: usize,
+    ) -> Result<i64, Refusal> {
         let Some(slip) = self.take(point) else {
             return Err(no_slip(station.ledger(), sheet.len(), point));
         };
@@ -117,7 +122,12 @@ impl Slips {
     }
 
     // Withdraws the point's open slip: its number.
-    pub(crate) fn withdraw(&mut self, ledger: &Ledger, sheet: &mut [Point], point: usize) -> Result<u32, Refusal> {
+    pub(crate) fn withdraw(
+        &mut self,
+        ledger: &Ledger,
+        sheet: &mut [Point],
+        point: usize,
+    ) -> Result<u32, Refusal> {
         let Some(slip) = self.take(point) else {
             return Err(no_slip(ledger, sheet.len(), point));
         };

@@ -65,7 +65,11 @@ impl Station {
         self.ledger.admit_trader()
     }
 
-    pub(crate) fn admit_point(&mut self, sheet: &mut [Point], given: Particulars) -> Result<usize, Refusal>
+    pub(crate) fn admit_point(
+        &mut self,
+        sheet: &mut [Point],
+        given: Particulars,
+    ) -> Result<usize, Refusal>
         ensures answer { λ r. ⌜ r ≡ pointAnswer (now (self .entry) .ledger .book) (now (sheet .entry)) given ⌝ }
         ensures state { λ r. ⌜ now (self .exit) .ledger .book ≡ pointBook (now (self .entry) .ledger .book) (now (sheet .entry)) given ⌝ }
         ensures rows { λ r. ⌜ now (sheet .exit) ≡ pointSheet (now (self .entry) .ledger .book) (now (sheet .entry)) given ⌝ }
@@ -75,7 +79,12 @@ impl Station {
     }
 
     // Reads a point.
-    pub(crate) fn read(&mut self, sheet: &mut [Point], point: usize, reading: u32) -> Result<Slip, Refusal>
+    pub(crate) fn read(
+        &mut self,
+        sheet: &mut [Point],
+        point: usize,
+        reading: u32,
+    ) -> Result<Slip, Refusal>
         ensures answer { λ r. ⌜ r ≡ readAnswer (now (self .entry) .ledger .book) (now (sheet .entry)) point reading ⌝ }
         ensures state { λ r. ⌜ now (self .exit) .ledger .book ≡ readBook (now (self .entry) .ledger .book) (now (sheet .entry)) point reading ⌝ }
         ensures rows { λ r. ⌜ now (sheet .exit) ≡ readSheet (now (self .entry) .ledger .book) (now (sheet .entry)) point reading ⌝ }
@@ -93,7 +102,12 @@ impl Station {
     }
 
     // Hands a slip's point over: the correction.
-    pub(crate) fn hand_over(&mut self, sheet: &mut [Point], slip: Slip, trader: u32) -> Result<i64, Refused<Slip>>
+    pub(crate) fn hand_over(
+        &mut self,
+        sheet: &mut [Point],
+        slip: Slip,
+        trader: u32,
+    ) -> Result<i64, Refused<Slip>>
         ensures answer { λ r. ⌜ r ≡ handAnswer (now (self .entry) .ledger .book) (now (sheet .entry)) slip trader ⌝ }
         ensures state { λ r. ⌜ now (self .exit) .ledger .book ≡ handBook (now (self .entry) .ledger .book) (now (sheet .entry)) slip trader ⌝ }
         ensures rows { λ r. ⌜ now (sheet .exit) ≡ handSheet (now (self .entry) .ledger .book) (now (sheet .entry)) slip trader ⌝ }
@@ -106,7 +120,10 @@ impl Station {
         ensures answer { λ r. ⌜ r .1 ≡ opened (openAnswer (self .ledger .book) temperature season) ⌝ }
         ensures state { λ r. ⌜ r .0 .ledger .book ≡ openBook (self .ledger .book) temperature season ⌝ }
     {
-        let Station { mut ledger, running } = self;
+        let Station {
+            mut ledger,
+            running,
+        } = self;
         match running {
             Running::Idle => match ledger.open(temperature, season) {
                 Ok(day) => {
@@ -158,7 +175,10 @@ impl Station {
         ensures answer { λ r. ⌜ r .1 ≡ measured (inflowAnswer (self .ledger .book) (openDay (self .running)) litres rate) ⌝ }
         ensures state { λ r. ⌜ r .0 .ledger .book ≡ inflowBook (self .ledger .book) (openDay (self .running)) litres rate ⌝ }
     {
-        let Station { mut ledger, running } = self;
+        let Station {
+            mut ledger,
+            running,
+        } = self;
         match running {
             Running::Open(day) => {
                 let number = day.number();
@@ -199,9 +219,19 @@ impl Station {
         ensures rows { λ r. ⌜ now (sheet .exit) ≡ onMeasured (self .running) (now (sheet .entry)) (λ d. shareSheet (self .ledger .book) d (now (sheet .entry)) (P·Profile .tells (now (profile .entry))) (R·ShareRule .shares) (P·Profile .segments) (length (now (uses .entry))) (length (now (shares .entry)))) ⌝ }
         ensures given { λ r. ⌜ now (shares .exit) ≡ onMeasured (self .running) (now (shares .entry)) (λ d. shareShares (self .ledger .book) d (now (sheet .entry)) (P·Profile .tells (now (profile .entry))) (R·ShareRule .shares) (P·Profile .segments) (length (now (uses .entry))) (now (shares .entry))) ⌝ }
     {
-        let Station { mut ledger, running } = self;
+        let Station {
+            mut ledger,
+            running,
+        } = self;
         match running {
-            Running::Measured(day) => match ledger.share_out(day, sheet, profile, rule, uses, shares) {
+            Running::Measured(day) => match ledger.share_out(
+                day,
+                sheet,
+                profile,
+                rule,
+                uses,
+                shares,
+            ) {
                 Ok(told) => {
                     let running = Running::Idle;
                     (Station { ledger, running }, Ok(told))
@@ -229,7 +259,10 @@ impl Station {
         ensures state { λ r. ⌜ r .0 .ledger .book ≡ abandoned (self .ledger .book) (self .running) ⌝ }
         ensures idle { λ r. ⌜ r .0 .running ≡ Running.Idle ⌝ }
     {
-        let Station { mut ledger, running } = self;
+        let Station {
+            mut ledger,
+            running,
+        } = self;
         match running {
             Running::Idle => {
                 let running = Running::Idle;

@@ -26,11 +26,15 @@ pub impl fmt::Display for Halt as HaltDisplay {
     fn fmt<W: fmt::Write>(&self, f: &mut fmt::Formatter<W>) -> fmt::Result {
         match self {
             Halt::None => Ok(()),
-            Halt::Empty => f.write_str("no call: a journal begins with `ledger DAY`; `station --help` says more"),
+            Halt::Empty => f.write_str(
+                "no call: a journal begins with `ledger DAY`; `station --help` says more",
+            ),
             Halt::Line(fault) => fault.fmt(f),
             Halt::Place(trouble) => trouble.fmt(f),
             Halt::FileName => f.write_str("the file's name is not UTF-8 text"),
-            Halt::NoFile => f.write_str("there is no such file; it is looked for from the journal's folder"),
+            Halt::NoFile => f.write_str(
+                "there is no such file; it is looked for from the journal's folder",
+            ),
             Halt::Unreadable => f.write_str("the file cannot be read"),
             Halt::Sheet { line, fault } => write!(f, "line {line} of the file: {fault}"),
             Halt::Memory => f.write_str("no memory left"),

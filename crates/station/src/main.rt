@@ -120,7 +120,10 @@ fn run(rt: &LibcRuntime) -> Result<bool, Stop> {
         return Ok(true);
     }
     if asked.wrong {
-        eprintln!(rt, "station: one journal, or none for standard input; `station --help` says more")?;
+        eprintln!(
+            rt,
+            "station: one journal, or none for standard input; `station --help` says more"
+        )?;
         return Ok(false);
     }
     let Some(text) = read_journal(rt, &asked.path)? else {

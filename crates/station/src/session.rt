@@ -99,7 +99,11 @@ fn begin<'a>(text: &'a [u8], words: &mut Vec<&'a [u8]>) -> (Played<'a>, u32, &'a
         let halt = match said(line, words) {
             Ok(None) => Halt::None,
             Ok(Some(Call::Ledger { first_day })) => {
-                let played = Played { line: number, text: line, halt: Halt::None };
+                let played = Played {
+                    line: number,
+                    text: line,
+                    halt: Halt::None,
+                };
                 return (played, first_day, behind);
             }
             Ok(Some(_)) => Halt::Place(Trouble::LedgerFirst),
@@ -107,10 +111,22 @@ fn begin<'a>(text: &'a [u8], words: &mut Vec<&'a [u8]>) -> (Played<'a>, u32, &'a
         };
         match halt {
             Halt::None => rest = behind,
-            _ => return (Played { line: number, text: line, halt }, 0, behind),
+            _ => return (
+                Played {
+                    line: number,
+                    text: line,
+                    halt,
+                },
+                0,
+                behind,
+            ),
         }
     }
-    let played = Played { line: number, text: rest, halt: Halt::Empty };
+    let played = Played {
+        line: number,
+        text: rest,
+        halt: Halt::Empty,
+    };
     (played, 0, rest)
 }
 
@@ -164,9 +180,23 @@ fn play_on<'a>(
     while !rest.is_empty() {
         let (line, behind) = cut_line(rest);
         let number = played.line.saturating_add(1);
-        let (next, halt) = step(rt, journal, line, number, words, station, &mut slips, player, report);
+        let (next, halt) = step(
+            rt,
+            journal,
+            line,
+            number,
+            words,
+            station,
+            &mut slips,
+            player,
+            report,
+        );
         station = next;
-        played = Played { line: number, text: line, halt };
+        played = Played {
+            line: number,
+            text: line,
+            halt,
+        };
         rest = match halt {
             Halt::None => behind,
             _ => b"",
@@ -177,7 +207,14 @@ fn play_on<'a>(
             let (done, left) = player.close(station, slips, report);
             match done {
                 Ok(()) => (played, left),
-                Err(trouble) => (Played { line: played.line, text: played.text, halt: Halt::Place(trouble) }, left),
+                Err(trouble) => (
+                    Played {
+                        line: played.line,
+                        text: played.text,
+                        halt: Halt::Place(trouble),
+                    },
+                    left,
+                ),
             }
         }
         _ => {
@@ -188,7 +225,12 @@ fn play_on<'a>(
 }
 
 // Plays a journal and prints what its calls were told.
-pub fn play<'a>(rt: &LibcRuntime, journal: &Option<String>, text: &'a [u8], csv: bool) -> Result<Played<'a>, Stop> {
+pub fn play<'a>(
+    rt: &LibcRuntime,
+    journal: &Option<String>,
+    text: &'a [u8],
+    csv: bool,
+) -> Result<Played<'a>, Stop> {
     let heap = rt.alloc();
     let mut words = Vec::new(heap);
     let mut report = Report::new(heap, csv);
@@ -197,9 +239,25 @@ pub fn play<'a>(rt: &LibcRuntime, journal: &Option<String>, text: &'a [u8], csv:
         Halt::None => match Player::begin(heap, began.line, first_day, &mut report) {
             Ok(mut player) => {
                 let station = Station::new(first_day);
-                play_on(rt, journal, began, rest, &mut words, station, &mut player, &mut report)
+                play_on(
+                    rt,
+                    journal,
+                    began,
+                    rest,
+                    &mut words,
+                    station,
+                    &mut player,
+                    &mut report,
+                )
             }
-            Err(_) => (Played { line: began.line, text: began.text, halt: Halt::Memory }, Ok(())),
+            Err(_) => (
+                Played {
+                    line: began.line,
+                    text: began.text,
+                    halt: Halt::Memory,
+                },
+                Ok(()),
+            ),
         },
         _ => (began, Ok(())),
     };
@@ -208,6 +266,10 @@ pub fn play<'a>(rt: &LibcRuntime, journal: &Option<String>, text: &'a [u8], csv:
     }
     match flush(rt, &mut report) {
         Ok(()) => Ok(played),
-        Err(halt) => Ok(Played { line: played.line, text: played.text, halt }),
+        Err(halt) => Ok(Played {
+            line: played.line,
+            text: played.text,
+            halt,
+        }),
     }
 }

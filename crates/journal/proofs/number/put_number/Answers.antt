@@ -30,4 +30,4 @@ sub-at-2 c = omega (arith, room _ _ _ _ (c .loop-left .inv))
 pub returns : need.returns
 returns c =
     extended (c .extend-from-slice .result) _ _ (c .split-at .result .1 .now) (decimal (c .args .n)) (c .extend-from-slice .ensures .items)
-      (c .split-at .ensures .back ∙ last _ _ _ _ (c .loop-left .inv) (omega arith))
+    (c .split-at .ensures .back ∙ last _ _ _ _ (c .loop-left .inv) (omega arith))

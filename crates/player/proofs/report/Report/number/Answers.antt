@@ -10,4 +10,4 @@ use Rattle.player.proofs.report.Report.number.Needs as need
 pub returns : need.returns
 returns c =
     both (c .put-number .result) (c .args .self .now) (c .separate .last .self) _ (separator (c .args .self .now .csv) ∷ []) (λ _. decimal (c .args .n)) (c .in-Continue-separate .ensures tt)
-      (written (c .put-number .result) (c .separate .last .self) _ (decimal (c .args .n)) (c .put-number .ensures) refl)
+    (written (c .put-number .result) (c .separate .last .self) _ (decimal (c .args .n)) (c .put-number .ensures) refl)

@@ -20,7 +20,7 @@ returns c =
     let second : Bool → List ℕ = λ csv. fieldOf csv (codes "consumption") (c .args .consumption) in
     let third : Bool → List ℕ = λ csv. fieldOf csv (codes "share") (c .args .share) in
     both r (c .args .self .now) (numbered c) _ (decimal (c .args .line)) (λ csv. first csv ++ (second csv ++ (third csv ++ (10 ∷ []))))
-      (record { bytes = c .in-Continue-put-number .ensures tt; form = refl })
-      (both r (numbered c) (c .field .last .self) _ (first (c .args .self .now .csv)) (λ csv. second csv ++ (third csv ++ (10 ∷ []))) (c .in-Continue-field .ensures tt)
-        (both r (c .field .last .self) (c .field-2 .last .self) _ (second (c .field .last .self .csv)) (λ csv. third csv ++ (10 ∷ [])) (c .in-Continue-field-2 .ensures tt)
-          (both r (c .field-2 .last .self) (c .field-3 .last .self) _ (third (c .field-2 .last .self .csv)) (λ _. 10 ∷ []) (c .in-Continue-field-3 .ensures tt) (c .end .ensures))))
+    (record { bytes = c .in-Continue-put-number .ensures tt; form = refl })
+    (both r (numbered c) (c .field .last .self) _ (first (c .args .self .now .csv)) (λ csv. second csv ++ (third csv ++ (10 ∷ []))) (c .in-Continue-field .ensures tt)
+    (both r (c .field .last .self) (c .field-2 .last .self) _ (second (c .field .last .self .csv)) (λ csv. third csv ++ (10 ∷ [])) (c .in-Continue-field-2 .ensures tt)
+    (both r (c .field-2 .last .self) (c .field-3 .last .self) _ (third (c .field-2 .last .self .csv)) (λ _. 10 ∷ []) (c .in-Continue-field-3 .ensures tt) (c .end .ensures))))

@@ -12,6 +12,8 @@ use Rattle.player.proofs.station.Station.open.Needs as need
 
 pub ghost-result-in-Err : need.ghost-result-in-Err
 ghost-result-in-Err c =
-    let l = c .args .self .ledger .book in
-    (stays (openFault l (toZ w16 (ofZ w16 (c .args .temperature))) (c .args .season)) _ (c .in-Err .why) _ l (c .open .last .self .book) Idle (c .in-Err .ensures tt .answer) (c .in-Err .ensures tt .state)
-       (subst (λ (d : Running). tied (l .phase) d ≡ true) (c .in-Idle .is) (c .args .self .tied)), tt)
+    let l = c .args .self .ledger .book in (
+      stays (openFault l (toZ w16 (ofZ w16 (c .args .temperature))) (c .args .season)) _ (c .in-Err .why) _ l (c .open .last .self .book) Idle (c .in-Err .ensures tt .answer) (c .in-Err .ensures tt .state)
+          (subst (λ (d : Running). tied (l .phase) d ≡ true) (c .in-Idle .is) (c .args .self .tied)),
+      tt,
+    )

@@ -15,6 +15,8 @@ ghost-result g c =
 
 pub ghost-result-in-Err : need.ghost-result-in-Err
 ghost-result-in-Err g c =
-    let l = c .args .self .ledger .book in
-    (handed _ (c .in-Measured .day) _ (c .in-Err .back) _ l (c .share-out .last .self .book) (λ d. Measured d) (c .in-Err .ensures tt .answer) (c .in-Err .ensures tt .state)
-       (subst (λ (d : Running). tied (l .phase) d ≡ true) (c .in-Measured .is) (c .args .self .tied)), tt)
+    let l = c .args .self .ledger .book in (
+      handed _ (c .in-Measured .day) _ (c .in-Err .back) _ l (c .share-out .last .self .book) (λ d. Measured d) (c .in-Err .ensures tt .answer) (c .in-Err .ensures tt .state)
+          (subst (λ (d : Running). tied (l .phase) d ≡ true) (c .in-Measured .is) (c .args .self .tied)),
+      tt,
+    )
