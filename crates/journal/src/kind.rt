@@ -96,7 +96,7 @@ pub impl Worded for Rule as RuleWorded {
 }
 
 // Whether a word is a given text.
-pub fn is_word(word: &[u8], text: &str) -> bool
+pub(crate) fn is_word(word: &[u8], text: &str) -> bool
     ensures { λ r. ⌜ r ≡ sameBytes (now (word .entry)) (now (text .entry)) ⌝ }
 {
     word == text.as_bytes()
@@ -134,7 +134,7 @@ impl Kind {
     ];
 
     // The call that a first word stands for.
-    pub fn read(word: &[u8]) -> Option<Kind>
+    pub(crate) fn read(word: &[u8]) -> Option<Kind>
         ensures { λ r. ⌜ r ≡ kindIn (now (word .entry)) ⌝ }
     {
         find(&Kind::ALL, word)
@@ -142,7 +142,7 @@ impl Kind {
 }
 
 impl Shape {
-    pub fn read(word: &[u8]) -> Option<Shape>
+    pub(crate) fn read(word: &[u8]) -> Option<Shape>
         ensures { λ r. ⌜ r ≡ shapeIn (now (word .entry)) ⌝ }
     {
         find(&[Shape::Table, Shape::Even, Shape::Season], word)
@@ -150,7 +150,7 @@ impl Shape {
 }
 
 impl Rule {
-    pub fn read(word: &[u8]) -> Option<Rule>
+    pub(crate) fn read(word: &[u8]) -> Option<Rule>
         ensures { λ r. ⌜ r ≡ ruleIn (now (word .entry)) ⌝ }
     {
         find(&[Rule::Running, Rule::Largest], word)

@@ -93,7 +93,7 @@ fn lowered(tenths: u64) -> Result<i16, Fault>
 }
 
 // A temperature in tenths of a degree.
-pub fn tenths(word: &[u8]) -> Result<i16, Fault>
+pub(crate) fn tenths(word: &[u8]) -> Result<i16, Fault>
     ensures { λ r. ⌜ r ≡ tenthsOf (now (word .entry)) ⌝ }
 {
     if !word.is_empty() && word[0] == b'-' {

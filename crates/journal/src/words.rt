@@ -50,7 +50,7 @@ impl Class {
 }
 
 // How many bytes at the front belong to a class.
-pub fn front(text: &[u8], class: Class) -> usize
+pub(crate) fn front(text: &[u8], class: Class) -> usize
     ensures value { λ r. ⌜ r ≡ leading (belongs class) (now (text .entry)) ⌝ }
     ensures bound { λ r. ⌜ r ≤ length (now (text .entry)) ⌝ }
 {

@@ -2,6 +2,7 @@
 mod halt;
 mod help;
 mod session;
+mod sheet;
 
 use halt::Halt;
 use halt::HaltDisplay;
