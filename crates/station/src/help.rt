@@ -20,6 +20,10 @@ accounts and the balance. --csv prints the same with commas.
     share PROFILE running
     share PROFILE largest
     abandon
+    read POINT READING                                  opens the point's slip, until one of the next three
+    book POINT
+    hand-over POINT TRADER                              books, and the point is then TRADER's
+    withdraw POINT
     quantity TRADER
     # a comment
 
