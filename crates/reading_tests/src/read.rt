@@ -35,7 +35,7 @@ fn tried<const N: usize>(
     }
 }
 
-// Each ground, and beside another that is told after it.
+// Each ground, beside one that is told after it where there is one; the last is accepted.
 #[test]
 fn readings_refused() -> Result<(), Fail> {
     let mut ledger = two_points()?;
