@@ -62,37 +62,105 @@ const NOBODYS: Point = Point { trader: 2, ..OPEN };
 
 const ANOTHER: Point = Point { slip: 2, ..OPEN };
 
-// Each ground beside one that is told after it; the last is accepted.
+// A call with this first row, and the number of its refusal, 0 for none.
+#[derive(Clone, Copy)]
+struct Case {
+    call: Call,
+    row: Point,
+    number: u8,
+}
+
+// Each ground beside one that is told after it, where there is one. A withdrawal asks nothing of the row but its slip.
+static CASES: [Case; 13] = [
+    Case {
+        call: Call::Book,
+        row: Point { slip: 2, ..FOREIGN },
+        number: 11,
+    },
+    Case {
+        call: Call::Book,
+        row: Point { slip: 2, ..NOBODYS },
+        number: 11,
+    },
+    Case {
+        call: Call::Book,
+        row: ANOTHER,
+        number: 21,
+    },
+    Case {
+        call: Call::Book,
+        row: ROW,
+        number: 21,
+    },
+    Case {
+        call: Call::Book,
+        row: OPEN,
+        number: 0,
+    },
+    Case {
+        call: Call::HandOver(1),
+        row: Point { slip: 2, ..FOREIGN },
+        number: 11,
+    },
+    Case {
+        call: Call::HandOver(1),
+        row: Point { slip: 2, ..NOBODYS },
+        number: 11,
+    },
+    Case {
+        call: Call::HandOver(0),
+        row: ANOTHER,
+        number: 21,
+    },
+    Case {
+        call: Call::HandOver(0),
+        row: OPEN,
+        number: 29,
+    },
+    Case {
+        call: Call::HandOver(1),
+        row: OPEN,
+        number: 0,
+    },
+    Case {
+        call: Call::Withdraw,
+        row: ANOTHER,
+        number: 21,
+    },
+    Case {
+        call: Call::Withdraw,
+        row: ROW,
+        number: 21,
+    },
+    Case {
+        call: Call::Withdraw,
+        row: FOREIGN,
+        number: 0,
+    },
+];
+
 #[test]
-fn bookings_refused() -> Result<(), Fail> {
+fn rows_and_slips() -> Result<(), Fail> {
+    for case in &CASES {
+        check(tried(case.call, [case.row, SECOND])? == case.number)?;
+    }
+    Ok(())
+}
+
+// A sheet too short or too long, told before a trader or a row.
+#[test]
+fn sheets_of_a_wrong_length() -> Result<(), Fail> {
     check(tried(Call::Book, [FOREIGN; 1])? == 1)?;
     check(tried(Call::Book, [OPEN; 4097])? == 1)?;
-    check(past_the_points(Call::Book, [FOREIGN, SECOND, FOREIGN])? == 4)?;
-    check(tried(Call::Book, [Point { slip: 2, ..FOREIGN }, SECOND])? == 11)?;
-    check(tried(Call::Book, [Point { slip: 2, ..NOBODYS }, SECOND])? == 11)?;
-    check(tried(Call::Book, [ANOTHER, SECOND])? == 21)?;
-    check(tried(Call::Book, [ROW, SECOND])? == 21)?;
-    check(tried(Call::Book, [OPEN, FOREIGN])? == 0)
-}
-
-#[test]
-fn hand_overs_refused() -> Result<(), Fail> {
     check(tried(Call::HandOver(2), [OPEN; 1])? == 1)?;
-    check(past_the_points(Call::HandOver(2), [OPEN, SECOND, OPEN])? == 3)?;
-    check(past_the_points(Call::HandOver(1), [FOREIGN, SECOND, FOREIGN])? == 4)?;
-    check(tried(Call::HandOver(1), [Point { slip: 2, ..FOREIGN }, SECOND])? == 11)?;
-    check(tried(Call::HandOver(1), [Point { slip: 2, ..NOBODYS }, SECOND])? == 11)?;
-    check(tried(Call::HandOver(0), [ANOTHER, SECOND])? == 21)?;
-    check(tried(Call::HandOver(0), [OPEN, SECOND])? == 29)?;
-    check(tried(Call::HandOver(1), [OPEN, FOREIGN])? == 0)
+    check(tried(Call::Withdraw, [ANOTHER; 1])? == 1)
 }
 
-// A withdrawal asks nothing of the row but its slip.
+// No such trader is told before no such point, and that before a row.
 #[test]
-fn withdrawals_refused() -> Result<(), Fail> {
-    check(tried(Call::Withdraw, [OPEN; 1])? == 1)?;
-    check(past_the_points(Call::Withdraw, [ANOTHER, SECOND, ANOTHER])? == 4)?;
-    check(tried(Call::Withdraw, [ANOTHER, SECOND])? == 21)?;
-    check(tried(Call::Withdraw, [ROW, SECOND])? == 21)?;
-    check(tried(Call::Withdraw, [FOREIGN, FOREIGN])? == 0)
+fn no_such_trader_or_point() -> Result<(), Fail> {
+    check(past_the_points(Call::HandOver(2), [OPEN, SECOND, OPEN])? == 3)?;
+    check(past_the_points(Call::HandOver(1), [FOREIGN; 3])? == 4)?;
+    check(past_the_points(Call::Book, [FOREIGN; 3])? == 4)?;
+    check(past_the_points(Call::Withdraw, [ANOTHER; 3])? == 4)
 }
