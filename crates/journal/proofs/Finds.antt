@@ -47,6 +47,10 @@ kind-own of.Inflow = refl
 kind-own of.Share = refl
 kind-own of.Abandon = refl
 kind-own of.Quantity = refl
+kind-own of.Read = refl
+kind-own of.Book = refl
+kind-own of.HandOver = refl
+kind-own of.Withdraw = refl
 
 pub shape-own : (s : Shape) → shapeIn (shapeWord s) ≡ Some s
 shape-own shaped.Table = refl

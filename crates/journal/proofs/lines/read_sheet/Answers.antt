@@ -19,9 +19,9 @@ returns-in-Err c =
     let t = c .loop-rest .rest .now in
     let have = vec-items (c .loop-rest .sheet) in
     all-stop (c .in-Err .fault) have (wordsOf (uncommentedOf (c .cut-line .result .0 .now))) (wordsIn (behindLine t)) _ (wordsIn (c .args .text .now)) (c .in-Err .ensures tt)
-      (c .loop-rest .inv
-      ∙ ap (λ (ws : List (List ℕ)). after have (allOf ws)) (words-line t)
-      ∙ sym (ap (λ (l : List ℕ). after have (allOf (wordsOf (uncommentedOf l) ++ wordsIn (behindLine t)))) (c .cut-line .ensures .line)))
+    (c .loop-rest .inv
+    ∙ ap (λ (ws : List (List ℕ)). after have (allOf ws)) (words-line t)
+    ∙ sym (ap (λ (l : List ℕ). after have (allOf (wordsOf (uncommentedOf l) ++ wordsIn (behindLine t)))) (c .cut-line .ensures .line)))
 
 pub loop-rest-again : need.loop-rest-again
 loop-rest-again c =
