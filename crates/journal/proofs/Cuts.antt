@@ -6,40 +6,45 @@ use Prim.Native.Nat.{ℕ, suc, _+_, _≤_, _<_}
 use native.Mathlib.Numerals.{one-add}
 use native.Mathlib.Omega.{arith}
 use denote.Ref.{RefT}
+use lib.Dec.{eqb}
 use lib.ListN.{length, take, drop, length-take, length-drop}
 use Rattle.std.specs.shelf.Lists.{leading}
 use Rattle.std.proofs.shelf.Lists.{map-append}
-use Rattle.journal.specs.Words.{blank, belongs, unblanked, firstOf, restOf, joined, piecesOf, filled, wordsOf, textsOf}
-use Rattle.journal.specs.declared.words.Class.the-variants.{Blank, Ink}
+use Rattle.journal.specs.Words.{blank, belongs, unblanked, firstOf, restOf, joined, piecesBy, filled, wordsOf, wordsOfLines, wordsIn, lineOf, behindLine, uncommentedOf, textsOf}
+use Rattle.journal.specs.declared.words.Class.the-variants.{Blank, Ink, Line}
 
 abbrev ink : List ℕ → ℕ
 ink t = leading (belongs Ink) t
 
--- the pieces behind the blank that ends a word
-abbrev behind : List ℕ → List (List ℕ)
-behind [] = []
-behind (b ∷ bs) = piecesOf bs
+-- the pieces behind the byte that ends the first
+abbrev pub behindBy : (ℕ → Bool) → List ℕ → List (List ℕ)
+behindBy parts [] = []
+behindBy parts (b ∷ bs) = piecesBy parts bs
 
--- the first piece is the ink at the front
-pieces-ink : (t : List ℕ) → piecesOf t ≡ take (ink t) t ∷ behind (drop (ink t) t)
-pieces-ink [] = refl
-pieces-ink (b ∷ bs) =
-    elim (blank b) as (λ (v : Bool). cond v ([] ∷ piecesOf bs) (joined b (piecesOf bs)) ≡ take (cond (not v) (1 + ink bs) 0) (b ∷ bs) ∷ behind (drop (cond (not v) (1 + ink bs) 0) (b ∷ bs))) [
+-- the first piece goes up to the first byte that parts
+pub pieces-front : (parts : ℕ → Bool) (t : List ℕ) → piecesBy parts t ≡ take (leading (λ b. not (parts b)) t) t ∷ behindBy parts (drop (leading (λ b. not (parts b)) t) t)
+pieces-front parts [] = refl
+pieces-front parts (b ∷ bs) =
+    let n = leading (λ c. not (parts c)) bs in
+    elim (parts b) as (λ (v : Bool). cond v ([] ∷ piecesBy parts bs) (joined b (piecesBy parts bs)) ≡ take (cond (not v) (1 + n) 0) (b ∷ bs) ∷ behindBy parts (drop (cond (not v) (1 + n) 0) (b ∷ bs))) [
       | true ↦ refl
-      | false ↦ ap (joined b) (pieces-ink bs) ∙ sym (ap (λ (n : ℕ). take n (b ∷ bs) ∷ behind (drop n (b ∷ bs))) (one-add (ink bs)))
+      | false ↦ ap (joined b) (pieces-front parts bs) ∙ sym (ap (λ (k : ℕ). take k (b ∷ bs) ∷ behindBy parts (drop k (b ∷ bs))) (one-add n))
     ]
+
+abbrev behind : List ℕ → List (List ℕ)
+behind t = behindBy blank t
 
 words-behind : (t : List ℕ) → filled (behind (drop (ink t) t)) ≡ wordsOf (drop (ink t) t)
 words-behind [] = refl
 words-behind (b ∷ bs) =
     elim (blank b) as (λ (v : Bool). blank b ≡ v → filled (behind (drop (cond (not v) (1 + ink bs) 0) (b ∷ bs))) ≡ wordsOf (drop (cond (not v) (1 + ink bs) 0) (b ∷ bs))) [
-      | true ↦ λ e. sym (ap (λ (v : Bool). filled (cond v ([] ∷ piecesOf bs) (joined b (piecesOf bs)))) e)
+      | true ↦ λ e. sym (ap (λ (v : Bool). filled (cond v ([] ∷ piecesBy blank bs) (joined b (piecesBy blank bs)))) e)
       | false ↦ λ e. ap (λ (n : ℕ). filled (behind (drop n (b ∷ bs)))) (one-add (ink bs)) ∙ words-behind bs ∙ sym (ap (λ (n : ℕ). wordsOf (drop n (b ∷ bs))) (one-add (ink bs)))
     ] refl
 
 -- where no blank stands in front
 words-at-ink : (t : List ℕ) → wordsOf t ≡ filled (take (ink t) t ∷ []) ++ wordsOf (drop (ink t) t)
-words-at-ink t = ap filled (pieces-ink t) ∙ split (take (ink t) t) (behind (drop (ink t) t)) ∙ ap (λ (ws : List (List ℕ)). filled (take (ink t) t ∷ []) ++ ws) (words-behind t)
+words-at-ink t = ap filled (pieces-front blank t) ∙ split (take (ink t) t) (behind (drop (ink t) t)) ∙ ap (λ (ws : List (List ℕ)). filled (take (ink t) t ∷ []) ++ ws) (words-behind t)
   where
     split : (w : List ℕ) (ws : List (List ℕ)) → filled (w ∷ ws) ≡ filled (w ∷ []) ++ filled ws
     split [] ws = refl
@@ -49,7 +54,7 @@ words-unblanked : (t : List ℕ) → wordsOf t ≡ wordsOf (unblanked t)
 words-unblanked [] = refl
 words-unblanked (b ∷ bs) =
     elim (blank b) as (λ (v : Bool). blank b ≡ v → wordsOf (b ∷ bs) ≡ wordsOf (drop (cond v (1 + leading (belongs Blank) bs) 0) (b ∷ bs))) [
-      | true ↦ λ e. ap (λ (v : Bool). filled (cond v ([] ∷ piecesOf bs) (joined b (piecesOf bs)))) e ∙ words-unblanked bs ∙ sym (ap (λ (n : ℕ). wordsOf (drop n (b ∷ bs))) (one-add (leading (belongs Blank) bs)))
+      | true ↦ λ e. ap (λ (v : Bool). filled (cond v ([] ∷ piecesBy blank bs) (joined b (piecesBy blank bs)))) e ∙ words-unblanked bs ∙ sym (ap (λ (n : ℕ). wordsOf (drop n (b ∷ bs))) (one-add (leading (belongs Blank) bs)))
       | false ↦ λ e. refl
     ] refl
 
@@ -111,3 +116,13 @@ sofar-end line words word rest s e =
 
 pub texts-push : (ws : List (RefT (List ℕ))) (w : RefT (List ℕ)) → textsOf (ws ++ w ∷ []) ≡ textsOf ws ++ (w .now) ∷ []
 texts-push ws w = map-append (λ (x : RefT (List ℕ)). x .now) ws (w ∷ [])
+
+-- the words of a text: those of its first line, and those of what stands behind it
+pub words-line : (t : List ℕ) → wordsIn t ≡ wordsOf (uncommentedOf (lineOf t)) ++ wordsIn (behindLine t)
+words-line t =
+    let n = leading (belongs Line) t in
+    ap wordsOfLines (pieces-front (λ b. eqb b 10) t) ∙ ap (λ (ws : List (List ℕ)). wordsOf (uncommentedOf (lineOf t)) ++ ws) (rest (drop n t))
+  where
+    rest : (r : List ℕ) → wordsOfLines (behindBy (λ b. eqb b 10) r) ≡ wordsIn (drop 1 r)
+    rest [] = refl
+    rest (b ∷ bs) = refl

@@ -17,7 +17,11 @@ use Rattle.journal.specs.declared.call.Call.{Call}
 use Rattle.journal.specs.declared.fault.Fault.{Fault}
 use Rattle.journal.specs.declared.fault.Fault.the-variants.{Form, TooLarge, NotNumber}
 use Rattle.journal.specs.declared.kind.Kind.{Kind}
-use Rattle.journal.specs.Numbers.{numberOf, made, eachOf, numbersOf, numeral}
+use Rattle.journal.specs.Numbers.{numberOf, made, eachOf, numbersOf, numeral, after, allOf}
+use Rattle.journal.specs.declared.lines.SheetFault.{SheetFault}
+use Rattle.journal.specs.declared.lines.SheetFault.the-variants.{Memory, Malformed}
+use Rattle.journal.specs.Words.{wordsIn}
+use Rattle.journal.specs.Sheets.{Taken, Sheet}
 use Rattle.journal.specs.Calls.{Said, heard, heardLine}
 
 -- what `?` hands on is the fault
@@ -36,10 +40,6 @@ broke-line (Err y) r f e by is = ap (λ (x : Fault). Err x) by ∙ ap (λ (s : R
 -- and a value goes on
 pub went-on : {X Y : Type 0} (r : Result X Fault) (f : X → Result Y Fault) (x : X) → Ok x ≡ r → f x ≡ made r f
 went-on r f x is = ap (λ (s : Result _ Fault). made s f) is
-
--- numbers put before those that follow
-abbrev pub after : List ℕ → Result (List ℕ) Fault → Result (List ℕ) Fault
-after ns r = made r (λ ms. Ok (ns ++ ms))
 
 after-one : (ns : List ℕ) (n : ℕ) (r : Result (List ℕ) Fault) → after ns (made r (λ ms. Ok (n ∷ ms))) ≡ after (ns ++ n ∷ []) r
 after-one ns n (Ok ms) = ap (λ (xs : List ℕ). Ok xs) (sym (append-assoc ns (n ∷ []) ms))
@@ -103,3 +103,58 @@ numbers-bound k limits words ns i e = by (eqb (length words) (length limits)) e
     by : (b : Bool) → Ok ns ≡ cond b (eachOf limits words) (Err (Form k)) → getD ns i 0 ≤ getD limits i 0
     by true p = each-bound limits words ns i p
     by false p = absurd (let z : _≡_ {A = ℕ} 0 1 = cc in omega arith)
+
+-- what a sheet holds, and the words yet to be read
+pub all-more : (words : List (List ℕ)) (i n : ℕ) (have : List ℕ) → i < length words → Ok n ≡ numberOf 4294967295 (getD words i []) → after have (allOf (drop i words)) ≡ after (have ++ n ∷ []) (allOf (drop (i + 1) words))
+all-more words i n have h e =
+    let f : ℕ → Result (List ℕ) Fault = λ m. made (allOf (drop (i + 1) words)) (λ ms. Ok (m ∷ ms)) in
+    ap (λ (ws : List (List ℕ)). after have (allOf ws)) (drop-more words i [] h)
+    ∙ ap (after have) (sym (went-on (numberOf 4294967295 (getD words i [])) f n e))
+    ∙ after-one have n (allOf (drop (i + 1) words))
+
+pub all-fault : (words : List (List ℕ)) (i : ℕ) (have : List ℕ) (f : Fault) → i < length words → Err f ≡ numberOf 4294967295 (getD words i []) → after have (allOf (drop i words)) ≡ Err f
+all-fault words i have f h e =
+    let g : ℕ → Result (List ℕ) Fault = λ m. made (allOf (drop (i + 1) words)) (λ ms. Ok (m ∷ ms)) in
+    ap (λ (ws : List (List ℕ)). after have (allOf ws)) (drop-more words i [] h) ∙ sym (ap (λ (r : Result ℕ Fault). after have (made r g)) e)
+
+pub all-end : (words : List (List ℕ)) (i : ℕ) (have : List ℕ) → length words ≤ i → after have (allOf (drop i words)) ≡ Ok have
+all-end words i have h = ap (λ (ws : List (List ℕ)). after have (allOf ws)) (drop-all i words h) ∙ ap (λ (ns : List ℕ). Ok ns) (append-nil have)
+
+-- one list of words behind another
+pub all-append : (xs ys : List (List ℕ)) → allOf (xs ++ ys) ≡ made (allOf xs) (λ ns. after ns (allOf ys))
+all-append [] ys = sym (after-none (allOf ys))
+all-append (x ∷ xs) ys = ap (λ (r : Result (List ℕ) Fault). made (numberOf 4294967295 x) (λ n. made r (λ ns. Ok (n ∷ ns)))) (all-append xs ys) ∙ by (numberOf 4294967295 x) (allOf xs) (allOf ys)
+  where
+    by : (r : Result ℕ Fault) (p q : Result (List ℕ) Fault) → made r (λ n. made (made p (λ ns. after ns q)) (λ ns. Ok (n ∷ ns))) ≡ made (made r (λ n. made p (λ ns. Ok (n ∷ ns)))) (λ ns. after ns q)
+    by (Ok n) (Ok ns) (Ok ms) = refl
+    by (Ok n) (Ok ns) (Err e) = refl
+    by (Ok n) (Err e) q = refl
+    by (Err e) p q = refl
+
+pub after-after : (have ns : List ℕ) (r : Result (List ℕ) Fault) → after have (after ns r) ≡ after (have ++ ns) r
+after-after have ns (Ok ms) = ap (λ (xs : List ℕ). Ok xs) (sym (append-assoc have ns ms))
+after-after have ns (Err e) = refl
+
+-- a line that was read, before the lines behind it
+pub all-line : (have now : List ℕ) (xs ys : List (List ℕ)) → after have (allOf xs) ≡ Ok now → after have (allOf (xs ++ ys)) ≡ after now (allOf ys)
+all-line have now xs ys e = ap (after have) (all-append xs ys) ∙ by (allOf xs) e
+  where
+    by : (r : Result (List ℕ) Fault) → after have r ≡ Ok now → after have (made r (λ ns. after ns (allOf ys))) ≡ after now (allOf ys)
+    by (Ok ns) p = after-after have ns (allOf ys) ∙ (let q : have ++ ns ≡ now = cc in ap (λ (ms : List ℕ). after ms (allOf ys)) q)
+    by (Err f) p = absurd (let z : _≡_ {A = ℕ} 0 1 = cc in omega arith)
+
+pub all-line-fault : (have : List ℕ) (xs ys : List (List ℕ)) (f : Fault) → after have (allOf xs) ≡ Err f → after have (allOf (xs ++ ys)) ≡ Err f
+all-line-fault have xs ys f e = ap (after have) (all-append xs ys) ∙ by (allOf xs) e
+  where
+    by : (r : Result (List ℕ) Fault) → after have r ≡ Err f → after have (made r (λ ns. after ns (allOf ys))) ≡ Err f
+    by (Ok ns) p = absurd (let z : _≡_ {A = ℕ} 0 1 = cc in omega arith)
+    by (Err g) p = p
+
+-- a line that was not read ends the file
+pub all-stop : (e : SheetFault) (have : List ℕ) (xs ys : List (List ℕ)) (now : List ℕ) (all : List (List ℕ)) → Taken (Err e) have xs now → allOf all ≡ after have (allOf (xs ++ ys)) → Sheet (Err e) all
+all-stop Memory have xs ys now all t is = tt
+all-stop (Malformed line f) have xs ys now all t is = is ∙ all-line-fault have xs ys f t
+
+pub all-empty : (have : List ℕ) (t : List ℕ) → length t ≡ 0 → after have (allOf (wordsIn t)) ≡ Ok have
+all-empty have [] e = ap (λ (ns : List ℕ). Ok ns) (append-nil have)
+all-empty have (b ∷ bs) e = absurd (let z : ⊥ = omega arith in z)

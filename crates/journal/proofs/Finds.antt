@@ -11,7 +11,13 @@ use Rattle.std.specs.declared.option.Option.{Option}
 use Rattle.std.specs.declared.option.Option.the-variants.{Some, None}
 use Rattle.std.specs.shelf.Text.{sameBytes}
 use Rattle.std.proofs.shelf.Lists.{at-drop-more}
-use Rattle.journal.specs.Vocabulary.{named}
+use Rattle.journal.specs.declared.kind.Kind.{Kind}
+use Rattle.journal.specs.declared.kind.Kind.the-variants as of
+use Rattle.journal.specs.declared.kind.Rule.{Rule}
+use Rattle.journal.specs.declared.kind.Rule.the-variants as ruled
+use Rattle.journal.specs.declared.kind.Shape.{Shape}
+use Rattle.journal.specs.declared.kind.Shape.the-variants as shaped
+use Rattle.journal.specs.Vocabulary.{named, kindIn, kindWord, shapeIn, shapeWord, ruleIn, ruleWord}
 
 module _ {X : Type 0} (f : X → List ℕ) (xs : List X) (word : List ℕ) (i : ℕ) (x : X) (h : i < length xs) (is : x ≡ getD xs i x) where
   step : named f (drop i xs) word ≡ cond (sameBytes word (f x)) (Some x) (named f (drop (i + 1) xs) word)
@@ -27,3 +33,30 @@ module _ {X : Type 0} (f : X → List ℕ) (xs : List X) (word : List ℕ) (i : 
 
 pub decided : (xs ys : List ℕ) (r : Bool) → Decides r (xs ≡ ys) → r ≡ sameBytes xs ys
 decided xs ys r h = search (needs, sameBytes-decides)
+
+-- each is found by its own word
+pub kind-own : (k : Kind) → kindIn (kindWord k) ≡ Some k
+kind-own of.Ledger = refl
+kind-own of.Sheet = refl
+kind-own of.Profile = refl
+kind-own of.Trader = refl
+kind-own of.Point = refl
+kind-own of.Open = refl
+kind-own of.Enter = refl
+kind-own of.Inflow = refl
+kind-own of.Share = refl
+kind-own of.Abandon = refl
+kind-own of.Quantity = refl
+kind-own of.Read = refl
+kind-own of.Book = refl
+kind-own of.HandOver = refl
+kind-own of.Withdraw = refl
+
+pub shape-own : (s : Shape) → shapeIn (shapeWord s) ≡ Some s
+shape-own shaped.Table = refl
+shape-own shaped.Even = refl
+shape-own shaped.Season = refl
+
+pub rule-own : (r : Rule) → ruleIn (ruleWord r) ≡ Some r
+rule-own ruled.Running = refl
+rule-own ruled.Largest = refl

@@ -2,3 +2,4 @@ pub mod Words
 pub mod Vocabulary
 pub mod Numbers
 pub mod Calls
+pub mod Sheets

@@ -1,6 +1,6 @@
 -- Which numbers and temperatures words write.
 use mathlib.Core.Bool.{Bool, true, false, cond, _&&_}
-use mathlib.Core.List.{List, [], _∷_}
+use mathlib.Core.List.{List, [], _∷_, _++_}
 use Prim.Native.Nat.{ℕ, _+_, _*_, _-_}
 use lib.Dec.{eqb, leb}
 use lib.IntN.{ℤ, pos, negℤ}
@@ -71,3 +71,12 @@ below n = cond (leb n 32768) (Ok (negℤ (pos n))) (Err TooLarge)
 -- the tenths of a degree that a word writes
 abbrev pub tenthsOf : List ℕ → Result ℤ Fault
 tenthsOf word = cond (minus word) (made (magnitudeOf (drop 1 word)) below) (made (magnitudeOf word) above)
+
+-- every word a number of 32 bits
+abbrev pub allOf : List (List ℕ) → Result (List ℕ) Fault
+allOf [] = Ok []
+allOf (word ∷ words) = made (numberOf 4294967295 word) (λ n. made (allOf words) (λ ns. Ok (n ∷ ns)))
+
+-- numbers put before those that follow
+abbrev pub after : List ℕ → Result (List ℕ) Fault → Result (List ℕ) Fault
+after ns r = made r (λ ms. Ok (ns ++ ms))

@@ -1,6 +1,6 @@
 -- How a line of text is cut into words.
 use mathlib.Core.Bool.{Bool, true, false, cond, not, _||_, _&&_}
-use mathlib.Core.List.{List, [], _∷_, map}
+use mathlib.Core.List.{List, [], _∷_, _++_, map}
 use Prim.Native.Nat.{ℕ}
 use denote.Ref.{RefT, now}
 use lib.Dec.{eqb, leb, ltb}
@@ -49,10 +49,10 @@ abbrev pub joined : ℕ → List (List ℕ) → List (List ℕ)
 joined b [] = (b ∷ []) ∷ []
 joined b (piece ∷ pieces) = (b ∷ piece) ∷ pieces
 
--- the text cut at each blank: what stands between two neighbouring blanks is empty
-abbrev pub piecesOf : List ℕ → List (List ℕ)
-piecesOf [] = [] ∷ []
-piecesOf (b ∷ bs) = cond (blank b) ([] ∷ piecesOf bs) (joined b (piecesOf bs))
+-- the text cut at each byte that parts it: what stands between two of them that are neighbours is empty
+abbrev pub piecesBy : (ℕ → Bool) → List ℕ → List (List ℕ)
+piecesBy parts [] = [] ∷ []
+piecesBy parts (b ∷ bs) = cond (parts b) ([] ∷ piecesBy parts bs) (joined b (piecesBy parts bs))
 
 abbrev pub filled : List (List ℕ) → List (List ℕ)
 filled [] = []
@@ -61,7 +61,16 @@ filled ((b ∷ bs) ∷ pieces) = (b ∷ bs) ∷ filled pieces
 
 -- the words: the pieces that are not empty
 abbrev pub wordsOf : List ℕ → List (List ℕ)
-wordsOf text = filled (piecesOf text)
+wordsOf text = filled (piecesBy blank text)
+
+-- the words of lines, line by line, without their comments
+abbrev pub wordsOfLines : List (List ℕ) → List (List ℕ)
+wordsOfLines [] = []
+wordsOfLines (line ∷ lines) = wordsOf (uncommentedOf line) ++ wordsOfLines lines
+
+-- the words of a whole text, which line feeds part into lines
+abbrev pub wordsIn : List ℕ → List (List ℕ)
+wordsIn text = wordsOfLines (piecesBy (λ b. eqb b 10) text)
 
 -- what slices hold
 abbrev pub textsOf : List (RefT (List ℕ)) → List (List ℕ)

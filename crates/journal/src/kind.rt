@@ -2,6 +2,7 @@
 ghost use mathlib.Core.List.{List};
 ghost use mathlib.Core.Path.{_≡_};
 ghost use Prim.Native.Nat.{ℕ};
+ghost use Rattle.std.specs.declared.option.Option.the-variants.{Some};
 ghost use Rattle.std.specs.shelf.Text.{sameBytes};
 ghost use Rattle.journal.specs.Vocabulary.{kindWord, kindIn, shapeWord, shapeIn, ruleWord, ruleIn, named};
 
@@ -133,9 +134,10 @@ impl Kind {
         Kind::Withdraw,
     ];
 
-    // The call that a first word stands for.
+    // The call that a first word stands for. Each call is read by its own word.
     pub(crate) fn read(word: &[u8]) -> Option<Kind>
-        ensures { λ r. ⌜ r ≡ kindIn (now (word .entry)) ⌝ }
+        ensures value { λ r. ⌜ r ≡ kindIn (now (word .entry)) ⌝ }
+        ensures own { λ r. ⌜ ((k : Kind) → now (word .entry) ≡ kindWord k → r ≡ Some k) ⌝ }
     {
         find(&Kind::ALL, word)
     }
@@ -143,7 +145,8 @@ impl Kind {
 
 impl Shape {
     pub(crate) fn read(word: &[u8]) -> Option<Shape>
-        ensures { λ r. ⌜ r ≡ shapeIn (now (word .entry)) ⌝ }
+        ensures value { λ r. ⌜ r ≡ shapeIn (now (word .entry)) ⌝ }
+        ensures own { λ r. ⌜ ((s : Shape) → now (word .entry) ≡ shapeWord s → r ≡ Some s) ⌝ }
     {
         find(&[Shape::Table, Shape::Even, Shape::Season], word)
     }
@@ -151,7 +154,8 @@ impl Shape {
 
 impl Rule {
     pub(crate) fn read(word: &[u8]) -> Option<Rule>
-        ensures { λ r. ⌜ r ≡ ruleIn (now (word .entry)) ⌝ }
+        ensures value { λ r. ⌜ r ≡ ruleIn (now (word .entry)) ⌝ }
+        ensures own { λ r. ⌜ ((s : Rule) → now (word .entry) ≡ ruleWord s → r ≡ Some s) ⌝ }
     {
         find(&[Rule::Running, Rule::Largest], word)
     }

@@ -4,6 +4,7 @@ ghost use mathlib.Core.Path.{_≡_};
 ghost use Rattle.std.specs.Of.Vec.{vec-items};
 ghost use Rattle.std.specs.Vec.{made};
 ghost use Rattle.std.specs.Written.{decimal};
+ghost use Rattle.std.specs.declared.result.Result.the-variants.{Ok};
 ghost use mathlib.Core.Bool.{true};
 ghost use Prim.Native.Nat.{ℕ, _+_, _≤_, _^_};
 ghost use lib.ListN.{length};
@@ -42,8 +43,15 @@ fn value_of(word: &[u8]) -> Option<u64>
     Some(n)
 }
 
-// A number that keeps within a limit.
+// A number that keeps within a limit. What is written of a number is read as that number.
 pub fn number(word: &[u8], limit: u64) -> Result<u64, Fault>
+    ensures value { λ r. ⌜ r ≡ numberOf limit (now (word .entry)) ⌝ }
+    ensures back { λ r. ⌜ ((n : ℕ) → n ≤ limit → now (word .entry) ≡ decimal n → r ≡ Ok n) ⌝ }
+{
+    read_number(word, limit)
+}
+
+fn read_number(word: &[u8], limit: u64) -> Result<u64, Fault>
     ensures { λ r. ⌜ r ≡ numberOf limit (now (word .entry)) ⌝ }
 {
     if word.is_empty() || !all_digits(word) {

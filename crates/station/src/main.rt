@@ -2,7 +2,6 @@
 mod halt;
 mod help;
 mod session;
-mod sheet;
 
 use halt::Halt;
 use halt::HaltDisplay;

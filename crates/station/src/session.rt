@@ -1,11 +1,11 @@
 // The lines of a journal, one after the other.
 use crate::halt::Halt;
 use crate::halt::Stop;
-use crate::sheet::SheetFault;
-use crate::sheet::read_sheet;
 use journal::call::Call;
 use journal::call::parse;
+use journal::lines::SheetFault;
 use journal::lines::cut_line;
+use journal::lines::read_sheet;
 use journal::words::split;
 use journal::words::uncommented;
 use player::player::Player;

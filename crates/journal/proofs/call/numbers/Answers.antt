@@ -31,7 +31,7 @@ loop-i-again g c =
     let hw : i < length (textsOf ws) = omega arith in
     let hf : i < length (c .loop-i .found) = omega (arith, c .loop-i .inv .0) in (
       length-set (c .loop-i .found) i _ ∙ c .loop-i .inv .0,
-      c .loop-i .inv .1 ∙ each-more (c .args .limits) (textsOf ws) (c .loop-i .found) i (c .in-Continue-found .field-0) hl hw hf (c .in-Continue-found .ensures tt ∙ sym (ap (numberOf (getD (c .args .limits) i 0)) (texts-at ws i))),
+      c .loop-i .inv .1 ∙ each-more (c .args .limits) (textsOf ws) (c .loop-i .found) i (c .in-Continue-found .field-0) hl hw hf (c .in-Continue-found .ensures tt .value ∙ sym (ap (numberOf (getD (c .args .limits) i 0)) (texts-at ws i))),
     )
 
 pub returns-in-Break-found : need.returns-in-Break-found
@@ -43,7 +43,7 @@ returns-in-Break-found g c =
     let hw : i < length (textsOf ws) = omega arith in
     let same : length (textsOf ws) ≡ length (c .args .limits) = omega arith in
     error-is (c .from-residual .result) (c .in-Break-found .field-0 .0) (c .from-residual .ensures .1)
-    ∙ sym (c .loop-i .inv .1 ∙ each-fault (c .args .limits) (textsOf ws) (c .loop-i .found) i 0 hl hw (take i (c .loop-i .found)) (c .in-Break-found .field-0 .0) (c .in-Break-found .ensures tt ∙ sym (ap (numberOf (getD (c .args .limits) i 0)) (texts-at ws i))))
+    ∙ sym (c .loop-i .inv .1 ∙ each-fault (c .args .limits) (textsOf ws) (c .loop-i .found) i 0 hl hw (take i (c .loop-i .found)) (c .in-Break-found .field-0 .0) (c .in-Break-found .ensures tt .value ∙ sym (ap (numberOf (getD (c .args .limits) i 0)) (texts-at ws i))))
     ∙ numbers-is (c .args .kind) (c .args .limits) (textsOf ws) same
 
 pub returns : need.returns

@@ -2,8 +2,7 @@ use mathlib.Core.Path.{_≡_}
 use Prim.Native.Nat.{_≤_}
 use lib.ListN.{length, take, drop}
 use Rattle.journal.specs.Words.{textsOf}
-use Rattle.journal.specs.Numbers.{eachOf}
-use Rattle.journal.proofs.Eachs.{after}
+use Rattle.journal.specs.Numbers.{eachOf, after}
 use Rattle.journal.proofs.call.numbers.Given as given
 
 abbrev pub Inv-loop-i : given.InvT-loop-i

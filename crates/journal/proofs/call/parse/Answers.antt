@@ -42,7 +42,7 @@ returns-then-is-empty c =
 
 pub returns-in-rest : need.returns-in-rest
 returns-in-rest c =
-    ap (λ (o : Option Kind). form o (textsOf (drop 1 (c .args .words .now)))) (c .in-rest .ensures tt)
+    ap (λ (o : Option Kind). form o (textsOf (drop 1 (c .args .words .now)))) (c .in-rest .ensures tt .value)
     ∙ called (c .args .words .now) (false-eqb _ 0 (c .if-is-empty .ensures tt))
 
 pub returns-in-Break-call : need.returns-in-Break-call
@@ -50,7 +50,7 @@ returns-in-Break-call c =
     let rest = textsOf (drop 1 (c .args .words .now)) in
     broke-line (c .from-residual .result) (calls.formOf (c .in-Some .kind) rest) (λ s. Ok (Some s)) (c .in-Break-call .field-0 .0) (c .from-residual .ensures .1)
     (c .in-Break-call .ensures tt ∙ ap (λ (ws : List (RefT (List ℕ))). calls.formOf (c .in-Some .kind) (textsOf ws)) (c .split-at .ensures .back))
-    ∙ ap (λ (o : Option Kind). form o rest) (c .in-Some .ensures tt)
+    ∙ ap (λ (o : Option Kind). form o rest) (c .in-Some .ensures tt .value)
     ∙ called (c .args .words .now) (false-eqb _ 0 (c .if-is-empty .ensures tt))
 
 pub returns : need.returns
@@ -58,5 +58,5 @@ returns c =
     let rest = textsOf (drop 1 (c .args .words .now)) in
     went-on (calls.formOf (c .in-Some .kind) rest) (λ s. Ok (Some s)) (calls.said (c .in-Continue-call .call))
     (c .in-Continue-call .ensures tt ∙ ap (λ (ws : List (RefT (List ℕ))). calls.formOf (c .in-Some .kind) (textsOf ws)) (c .split-at .ensures .back))
-    ∙ ap (λ (o : Option Kind). form o rest) (c .in-Some .ensures tt)
+    ∙ ap (λ (o : Option Kind). form o rest) (c .in-Some .ensures tt .value)
     ∙ called (c .args .words .now) (false-eqb _ 0 (c .if-is-empty .ensures tt))

@@ -55,7 +55,7 @@ pub returns-in-rest : need.returns-in-rest
 returns-in-rest c =
     let w = textAt (c .args .args .now) in
     let rest = textsOf (drop 2 (c .args .args .now)) in
-    ap (form w rest (Ok tt)) (c .in-rest .ensures tt)
+    ap (form w rest (Ok tt)) (c .in-rest .ensures tt .value)
     ∙ ap (λ (n : Result Unit Fault). form w rest n (shapeIn (w 1))) (c .in-Continue-spelled .ensures tt)
     ∙ long (c .args .args .now) (omega arith)
 
@@ -65,6 +65,6 @@ returns c =
     let rest = textsOf (drop 2 (c .args .args .now)) in
     c .shaped .ensures
     ∙ ap (λ (ws : List (RefT (List ℕ))). calls.shapedOf (c .in-Some .shape) (w 0) (textsOf ws)) (c .split-at .ensures .back)
-    ∙ ap (form w rest (Ok tt)) (c .in-Some .ensures tt)
+    ∙ ap (form w rest (Ok tt)) (c .in-Some .ensures tt .value)
     ∙ ap (λ (n : Result Unit Fault). form w rest n (shapeIn (w 1))) (c .in-Continue-spelled .ensures tt)
     ∙ long (c .args .args .now) (omega arith)

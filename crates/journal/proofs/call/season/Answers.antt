@@ -37,14 +37,14 @@ returns-then-args-ne4 c = sized-not of.Profile 4 (c .args .args .now) _ (λ e. o
 pub returns-in-Break-segment : need.returns-in-Break-segment
 returns-in-Break-segment c =
     let w = textAt (c .args .args .now) in
-    broke-call (c .from-residual .result) (numberOf max32 (w 0)) (λ n. form (c .args .name .now) w (Ok n) (wordIn File NotFile (w 1)) (sameBytes (w 2) (codes "over"))) (c .in-Break-segment .field-0 .0) (c .from-residual .ensures .1) (c .in-Break-segment .ensures tt)
+    broke-call (c .from-residual .result) (numberOf max32 (w 0)) (λ n. form (c .args .name .now) w (Ok n) (wordIn File NotFile (w 1)) (sameBytes (w 2) (codes "over"))) (c .in-Break-segment .field-0 .0) (c .from-residual .ensures .1) (c .in-Break-segment .ensures tt .value)
     ∙ sized-is of.Profile 4 (c .args .args .now) (whole (c .args .name .now)) (omega arith)
 
 pub returns-in-Break-spelled : need.returns-in-Break-spelled
 returns-in-Break-spelled c =
     let w = textAt (c .args .args .now) in
     broke-call (c .from-residual-in-Break-spelled .result) (wordIn File NotFile (w 1)) (λ _. form (c .args .name .now) w (Ok (c .in-Continue-segment .segment)) (Ok tt) (sameBytes (w 2) (codes "over"))) (c .in-Break-spelled .field-0 .0) (c .from-residual-in-Break-spelled .ensures .1) (c .in-Break-spelled .ensures tt)
-    ∙ ap (λ (s : Result ℕ Fault). form (c .args .name .now) w s (wordIn File NotFile (w 1)) (sameBytes (w 2) (codes "over"))) (c .in-Continue-segment .ensures tt)
+    ∙ ap (λ (s : Result ℕ Fault). form (c .args .name .now) w s (wordIn File NotFile (w 1)) (sameBytes (w 2) (codes "over"))) (c .in-Continue-segment .ensures tt .value)
     ∙ sized-is of.Profile 4 (c .args .args .now) (whole (c .args .name .now)) (omega arith)
 
 pub returns-then-not-is-word : need.returns-then-not-is-word
@@ -53,7 +53,7 @@ returns-then-not-is-word c =
     let name = c .args .name .now in
     ap (form name w (Ok (c .in-Continue-segment .segment)) (Ok tt)) (c .if-not-is-word .ensures tt)
     ∙ ap (λ (f : Result Unit Fault). form name w (Ok (c .in-Continue-segment .segment)) f (sameBytes (w 2) (codes "over"))) (c .in-Continue-spelled .ensures tt)
-    ∙ ap (λ (s : Result ℕ Fault). form name w s (wordIn File NotFile (w 1)) (sameBytes (w 2) (codes "over"))) (c .in-Continue-segment .ensures tt)
+    ∙ ap (λ (s : Result ℕ Fault). form name w s (wordIn File NotFile (w 1)) (sameBytes (w 2) (codes "over"))) (c .in-Continue-segment .ensures tt .value)
     ∙ sized-is of.Profile 4 (c .args .args .now) (whole name) (omega arith)
 
 pub returns : need.returns
@@ -62,5 +62,5 @@ returns c =
     let name = c .args .name .now in
     ap (form name w (Ok (c .in-Continue-segment .segment)) (Ok tt)) (c .if-not-is-word .ensures tt)
     ∙ ap (λ (f : Result Unit Fault). form name w (Ok (c .in-Continue-segment .segment)) f (sameBytes (w 2) (codes "over"))) (c .in-Continue-spelled .ensures tt)
-    ∙ ap (λ (s : Result ℕ Fault). form name w s (wordIn File NotFile (w 1)) (sameBytes (w 2) (codes "over"))) (c .in-Continue-segment .ensures tt)
+    ∙ ap (λ (s : Result ℕ Fault). form name w s (wordIn File NotFile (w 1)) (sameBytes (w 2) (codes "over"))) (c .in-Continue-segment .ensures tt .value)
     ∙ sized-is of.Profile 4 (c .args .args .now) (whole name) (omega arith)

@@ -32,8 +32,8 @@ returns-then-args-ne2 c = sized-not of.Share 2 (c .args .args .now) _ (λ e. ome
 pub returns-in-rest : need.returns-in-rest
 unfolding form
 returns-in-rest c =
-    ap (form (textAt (c .args .args .now))) (c .in-rest .ensures tt) ∙ sized-is of.Share 2 (c .args .args .now) (λ w. form w (ruleIn (w 1))) (omega arith)
+    ap (form (textAt (c .args .args .now))) (c .in-rest .ensures tt .value) ∙ sized-is of.Share 2 (c .args .args .now) (λ w. form w (ruleIn (w 1))) (omega arith)
 
 pub returns : need.returns
 unfolding form
-returns c = ap (form (textAt (c .args .args .now))) (c .in-Some .ensures tt) ∙ sized-is of.Share 2 (c .args .args .now) (λ w. form w (ruleIn (w 1))) (omega arith)
+returns c = ap (form (textAt (c .args .args .now))) (c .in-Some .ensures tt .value) ∙ sized-is of.Share 2 (c .args .args .now) (λ w. form w (ruleIn (w 1))) (omega arith)

@@ -45,7 +45,7 @@ returns-in-rest c =
 pub returns-in-Break-season : need.returns-in-Break-season
 returns-in-Break-season c =
     let w = textAt (c .args .args .now) in
-    broke-call (c .from-residual .result) (numberOf 255 (w 1)) (λ n. Ok (calls.opens (c .in-Ok .temperature) n)) (c .in-Break-season .field-0 .0) (c .from-residual .ensures .1) (c .in-Break-season .ensures tt)
+    broke-call (c .from-residual .result) (numberOf 255 (w 1)) (λ n. Ok (calls.opens (c .in-Ok .temperature) n)) (c .in-Break-season .field-0 .0) (c .from-residual .ensures .1) (c .in-Break-season .ensures tt .value)
     ∙ ap (λ (r : Result ℤ Fault). form (okPart r) (numberOf 255 (w 1))) (c .in-Ok .ensures tt)
     ∙ sized-is of.Open 2 (c .args .args .now) (λ v. form (okPart (tenthsOf (v 0))) (numberOf 255 (v 1))) (omega arith)
 
@@ -55,6 +55,6 @@ returns c =
     let t = c .in-Ok .temperature in
     let fits : SFits w16 t = search needs in
     ap (λ (z : ℤ). Ok (calls.opens z (c .in-Continue-season .season))) (toZ-ofZ w16 t fits)
-    ∙ went-on (numberOf 255 (w 1)) (λ n. Ok (calls.opens t n)) (c .in-Continue-season .season) (c .in-Continue-season .ensures tt)
+    ∙ went-on (numberOf 255 (w 1)) (λ n. Ok (calls.opens t n)) (c .in-Continue-season .season) (c .in-Continue-season .ensures tt .value)
     ∙ ap (λ (r : Result ℤ Fault). form (okPart r) (numberOf 255 (w 1))) (c .in-Ok .ensures tt)
     ∙ sized-is of.Open 2 (c .args .args .now) (λ v. form (okPart (tenthsOf (v 0))) (numberOf 255 (v 1))) (omega arith)
