@@ -1,10 +1,11 @@
 // What a journal has set up beside the ledger, and the playing of its calls.
-ghost use mathlib.Core.Bool.{true};
+ghost use mathlib.Core.Bool.{true, false};
 ghost use mathlib.Core.Path.{_≡_};
 ghost use Prim.Native.Nat.{_<_};
-ghost use Rattle.std.specs.Of.Vec.{vec-len};
+ghost use Rattle.ledger.specs.Days.{admitBook, pointBook};
+ghost use Rattle.std.specs.Of.Vec.{vec-items, vec-len};
 ghost use Rattle.std.specs.Vec.{made, refused};
-ghost use Rattle.player.specs.Running.{tied};
+ghost use Rattle.player.specs.Playing.{Plays, ofDay, ofSlip};
 use crate::recipe::Layer;
 use crate::recipe::Recipe;
 use crate::recipe::test_layer;
@@ -176,9 +177,12 @@ impl Player {
         line: u64,
         name: Option<&[u8]>,
         report: &mut Report,
-    ) -> Result<(), Trouble> {
+    ) -> Result<(), Trouble>
+        ensures { λ r. ⌜ now (station .exit) .ledger .book ≡ admitBook (now (station .entry) .ledger .book) ⌝ }
+    {
+        let told = station.admit_trader();
         report.call(line, Kind::Trader)?;
-        match station.admit_trader() {
+        match told {
             Ok(trader) => {
                 let name = name.unwrap_or(b"-");
                 self.traders.push(Vec::from_slice(self.heap, name)?)?;
@@ -197,10 +201,13 @@ impl Player {
         line: u64,
         given: Particulars,
         report: &mut Report,
-    ) -> Result<(), Trouble> {
+    ) -> Result<(), Trouble>
+        ensures { λ r. ⌜ now (station .exit) .ledger .book ≡ pointBook (now (station .entry) .ledger .book) (vec-items (now (self .entry) .sheet)) given ⌝ }
+    {
+        let told = station.admit_point(self.sheet.as_mut_slice(), given);
         self.unset = false;
         report.call(line, Kind::Point)?;
-        match station.admit_point(self.sheet.as_mut_slice(), given) {
+        match told {
             Ok(point) => report.number(point as u64)?,
             Err(why) => report.refused(why)?,
         }
@@ -350,7 +357,7 @@ impl Player {
         numbers: Vec<u32>,
         report: &mut Report,
     ) -> (Station, Result<(), Trouble>)
-        ensures { λ r. ⌜ tied (r .0 .ledger .book .phase) (r .0 .running) ≡ true ⌝ }
+        ensures { λ r. ⌜ Plays (call .entry) (vec-items (now (self .entry) .sheet)) (station .running) (station .ledger .book) (r .0 .ledger .book) ⌝ }
     {
         match call {
             Call::Open { .. } | Call::Inflow { .. } | Call::Share { .. } | Call::Abandon => {
@@ -376,7 +383,9 @@ impl Player {
         slips: &mut Slips,
         call: Call<'_>,
         report: &mut Report,
-    ) -> Result<(), Trouble> {
+    ) -> Result<(), Trouble>
+        ensures { λ r. ⌜ (ofSlip (call .entry) ≡ true → Plays (call .entry) (vec-items (now (self .entry) .sheet)) (now (station .entry) .running) (now (station .entry) .ledger .book) (now (station .exit) .ledger .book)) ⌝ }
+    {
         let sheet = self.sheet.as_mut_slice();
         match call {
             Call::Read { point, reading } => {
@@ -408,7 +417,9 @@ impl Player {
         call: Call<'_>,
         numbers: Vec<u32>,
         report: &mut Report,
-    ) -> Result<(), Trouble> {
+    ) -> Result<(), Trouble>
+        ensures { λ r. ⌜ (ofDay (call .entry) ≡ false → ofSlip (call .entry) ≡ false → Plays (call .entry) (vec-items (now (self .entry) .sheet)) (now (station .entry) .running) (now (station .entry) .ledger .book) (now (station .exit) .ledger .book)) ⌝ }
+    {
         match call {
             Call::Sheet { places } => self.set_sheet(line, places, report),
             Call::Table { name, .. } => self.add_profile(
@@ -471,7 +482,9 @@ impl Player {
         line: u64,
         call: Call<'_>,
         report: &mut Report,
-    ) -> (Station, Result<(), Trouble>) {
+    ) -> (Station, Result<(), Trouble>)
+        ensures { λ r. ⌜ (ofDay (call .entry) ≡ true → Plays (call .entry) (vec-items (now (self .entry) .sheet)) (station .running) (station .ledger .book) (r .0 .ledger .book)) ⌝ }
+    {
         match call {
             Call::Open {
                 temperature,
