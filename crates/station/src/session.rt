@@ -225,7 +225,7 @@ fn play_on<'a>(
 }
 
 // Plays a journal and prints what its calls were told.
-pub fn play<'a>(
+pub(crate) fn play<'a>(
     rt: &LibcRuntime,
     journal: &Option<String>,
     text: &'a [u8],
