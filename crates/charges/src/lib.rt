@@ -1,4 +1,6 @@
 // Charges for deviations from what was nominated or balanced, and the fee for them.
+#![tactic(auto)]
+
 pub mod balance;
 pub mod megajoules;
 pub mod nomination;

@@ -2,6 +2,8 @@
 //
 // SHEET is a table profile's sheet. In order: what the table tells, what a season layer over it tells, shares by both
 // rules, and a worked day by both rules.
+#![tactic(auto)]
+
 mod cases;
 mod day;
 mod page;

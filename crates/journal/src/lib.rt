@@ -1,4 +1,6 @@
 // The text of a journal: lines, words, numbers and the calls that they say.
+#![tactic(auto)]
+
 pub mod call;
 pub mod fault;
 pub mod kind;

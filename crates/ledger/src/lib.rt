@@ -1,5 +1,7 @@
 // The station's ledger: traders and their accounts, the running gas day, and the calls that change them.
 // The points lie in a sheet that the caller owns and hands in.
+#![tactic(auto)]
+
 mod book;
 mod day;
 mod ledger;

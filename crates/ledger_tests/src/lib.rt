@@ -1,4 +1,6 @@
 // Tests of the ledger's calls: each refusal once, with ledger and sheets seen before and after, and days worked out by hand.
+#![tactic(auto)]
+
 #[cfg(test)]
 mod abandon;
 #[cfg(test)]

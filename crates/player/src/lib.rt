@@ -1,4 +1,6 @@
 // Plays the calls of a journal on one ledger, and writes down what each was told.
+#![tactic(auto)]
+
 pub mod player;
 mod recipe;
 pub mod report;

@@ -1,4 +1,6 @@
 // Profiles: which factors belong to a segment of customers at a temperature, in a season.
+#![tactic(auto)]
+
 mod even;
 mod factors;
 mod profile;

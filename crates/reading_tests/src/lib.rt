@@ -1,4 +1,6 @@
 // Tests of the ledger's readings: each refusal once, with ledger and sheet seen before and after, and bookings worked out by hand.
+#![tactic(auto)]
+
 #[cfg(test)]
 mod days;
 #[cfg(test)]

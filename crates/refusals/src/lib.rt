@@ -1,4 +1,6 @@
 // Why a call is refused: one list for every crate, and one number for each case.
+#![tactic(auto)]
+
 ghost use Rattle.std.specs.Prelude.{◌≡◌};
 ghost use Rattle.refusals.specs.Numbers.{number_of};
 

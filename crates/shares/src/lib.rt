@@ -1,4 +1,6 @@
 // Shares a quantity of gas among points by their weights, to the litre.
+#![tactic(auto)]
+
 mod largest;
 mod rule;
 mod running;

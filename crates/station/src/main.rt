@@ -1,4 +1,6 @@
 // Plays a journal of calls on a station's ledger, and prints what each was told.
+#![tactic(auto)]
+
 mod halt;
 mod help;
 mod session;

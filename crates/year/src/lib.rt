@@ -1,4 +1,6 @@
 // The law of the year, on a public call: the totals of a ledger and its sheet.
+#![tactic(auto)]
+
 ghost use Rattle.std.specs.Prelude.{◌≡◌, pos, ◌+ℤ◌};
 ghost use Rattle.ledger.specs.Accounts.{all_accounts};
 ghost use Rattle.ledger.specs.History.{History, Leads};

@@ -6,8 +6,8 @@ use Rattle.calendar.proofs.months.month_at.Goals as goal
 pub loop-month-init : goal.loop-month-init
 loop-month-init c = omega (arith, before_first c.args.leap)
 
-pub returns-then-day-days-before : goal.returns-then-day-days-before
-returns-then-day-days-before c = record {
+pub returns-then-day-days_before : goal.returns-then-day-days_before
+returns-then-day-days_before c = record {
   month = omega arith;
   from = c.loop-month.invariant;
   to = omega (arith, before_next c.args.leap c.loop-month.month);

@@ -5,4 +5,4 @@ use Rattle.capi.proofs.days.keldrava_flat_rate_day.Goals as goal
 
 pub returns : goal.returns
 returns c =
-    c.tell.ensures ∙ ap told (c.flat-rate-day.ensures.value ∙ same_flat_rate c.args.litres _ _ c.date.ensures)
+    c.tell.ensures ∙ ap told (c.flat_rate_day.ensures.value ∙ same_flat_rate c.args.litres _ _ c.date.ensures)

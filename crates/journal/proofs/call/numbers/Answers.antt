@@ -25,19 +25,19 @@ loop-i-preserved g c =
     let hw : i < length (texts_of ws) = omega arith in
     let hf : i < length c.loop-i.found = omega (arith, c.loop-i.invariant.0) in (
       length-set c.loop-i.found i _ ∙ c.loop-i.invariant.0,
-      c.loop-i.invariant.1 ∙ each_more c.args.limits (texts_of ws) c.loop-i.found i c.in-ok-found.field-0 hl hw hf (c.in-ok-found.ensures.value ∙ sym (ap (number_of (get_or c.args.limits i 0)) (texts_at ws i))),
+      c.loop-i.invariant.1 ∙ each_more c.args.limits (texts_of ws) c.loop-i.found i c.in_ok-found.field-0 hl hw hf (c.in_ok-found.ensures.value ∙ sym (ap (number_of (get_or c.args.limits i 0)) (texts_at ws i))),
     )
 
-pub returns-in-err-found : goal.returns-in-err-found
-returns-in-err-found g c =
+pub returns-in_err-found : goal.returns-in_err-found
+returns-in_err-found g c =
     let ws = c.args.words.now in
     let i = c.loop-i.i in
     let lw = length_texts ws in
     let hl : i < length c.args.limits = omega arith in
     let hw : i < length (texts_of ws) = omega arith in
     let same : length (texts_of ws) ≡ length c.args.limits = omega arith in
-    error_is c.from-residual.result c.in-err-found.field-0.0 c.from-residual.ensures.1
-    ∙ sym (c.loop-i.invariant.1 ∙ each_fault c.args.limits (texts_of ws) c.loop-i.found i 0 hl hw (take i c.loop-i.found) c.in-err-found.field-0.0 (c.in-err-found.ensures.value ∙ sym (ap (number_of (get_or c.args.limits i 0)) (texts_at ws i))))
+    error_is c.from_residual.result c.in_err-found.field-0.0 c.from_residual.ensures.1
+    ∙ sym (c.loop-i.invariant.1 ∙ each_fault c.args.limits (texts_of ws) c.loop-i.found i 0 hl hw (take i c.loop-i.found) c.in_err-found.field-0.0 (c.in_err-found.ensures.value ∙ sym (ap (number_of (get_or c.args.limits i 0)) (texts_at ws i))))
     ∙ numbers_is c.args.kind c.args.limits (texts_of ws) same
 
 pub returns : goal.returns

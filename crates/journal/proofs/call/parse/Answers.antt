@@ -24,28 +24,28 @@ called ws h =
     sym (λ j. form (kind_in (texts_at ws 0 j)) (drop_texts ws 1 j))
     ∙ chosen_no (eqb (length (texts_of ws)) 0) (Ok None) (form (kind_in (get_or (texts_of ws) 0 [])) (drop 1 (texts_of ws))) (some_words ws h)
 
-pub returns-then-is-empty : goal.returns-then-is-empty
-returns-then-is-empty c =
+pub returns-then-is_empty : goal.returns-then-is_empty
+returns-then-is_empty c =
     let ws = c.args.words.now in
-    chosen_yes (eqb (length (texts_of ws)) 0) (Ok None) (form (kind_in (get_or (texts_of ws) 0 [])) (drop 1 (texts_of ws))) (no_words ws (true-eqb _ 0 c.if-is-empty.ensures))
+    chosen_yes (eqb (length (texts_of ws)) 0) (Ok None) (form (kind_in (get_or (texts_of ws) 0 [])) (drop 1 (texts_of ws))) (no_words ws (true-eqb _ 0 c.if-is_empty.ensures))
 
-pub returns-in-default : goal.returns-in-default
-returns-in-default c =
-    ap (λ (o : Option Kind). form o (texts_of (drop 1 c.args.words.now))) c.in-default.ensures.value
-    ∙ called c.args.words.now (false-eqb _ 0 c.if-is-empty.ensures)
+pub returns-in_default : goal.returns-in_default
+returns-in_default c =
+    ap (λ (o : Option Kind). form o (texts_of (drop 1 c.args.words.now))) c.in_default.ensures.value
+    ∙ called c.args.words.now (false-eqb _ 0 c.if-is_empty.ensures)
 
-pub returns-in-err-call : goal.returns-in-err-call
-returns-in-err-call c =
+pub returns-in_err-call : goal.returns-in_err-call
+returns-in_err-call c =
     let rest = texts_of (drop 1 c.args.words.now) in
-    broke_line c.from-residual.result (calls.form_of c.in-Some.kind rest) (λ s. Ok (Some s)) c.in-err-call.field-0.0 c.from-residual.ensures.1
-    (c.in-err-call.ensures ∙ ap (λ (ws : List (Bor (List ℕ))). calls.form_of c.in-Some.kind (texts_of ws)) c.split-at.ensures.back)
+    broke_line c.from_residual.result (calls.form_of c.in-Some.kind rest) (λ s. Ok (Some s)) c.in_err-call.field-0.0 c.from_residual.ensures.1
+    (c.in_err-call.ensures ∙ ap (λ (ws : List (Bor (List ℕ))). calls.form_of c.in-Some.kind (texts_of ws)) c.split_at.ensures.back)
     ∙ ap (λ (o : Option Kind). form o rest) c.in-Some.ensures.value
-    ∙ called c.args.words.now (false-eqb _ 0 c.if-is-empty.ensures)
+    ∙ called c.args.words.now (false-eqb _ 0 c.if-is_empty.ensures)
 
 pub returns : goal.returns
 returns c =
     let rest = texts_of (drop 1 c.args.words.now) in
-    went_on (calls.form_of c.in-Some.kind rest) (λ s. Ok (Some s)) (calls.said c.in-ok-call.call)
-    (c.in-ok-call.ensures ∙ ap (λ (ws : List (Bor (List ℕ))). calls.form_of c.in-Some.kind (texts_of ws)) c.split-at.ensures.back)
+    went_on (calls.form_of c.in-Some.kind rest) (λ s. Ok (Some s)) (calls.said c.in_ok-call.call)
+    (c.in_ok-call.ensures ∙ ap (λ (ws : List (Bor (List ℕ))). calls.form_of c.in-Some.kind (texts_of ws)) c.split_at.ensures.back)
     ∙ ap (λ (o : Option Kind). form o rest) c.in-Some.ensures.value
-    ∙ called c.args.words.now (false-eqb _ 0 c.if-is-empty.ensures)
+    ∙ called c.args.words.now (false-eqb _ 0 c.if-is_empty.ensures)

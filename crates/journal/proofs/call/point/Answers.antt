@@ -5,5 +5,5 @@ use Rattle.journal.specs.Calls.{max32}
 use Rattle.journal.proofs.Eachs.{numbers_bound}
 use Rattle.journal.proofs.call.point.Goals as goal
 
-pub overflow-cast-result-6 : goal.overflow-cast-result-6
-overflow-cast-result-6 c = omega (arith, numbers_bound of.Point (max32 ∷ max32 ∷ max32 ∷ max32 ∷ max32 ∷ max32 ∷ []) (texts_of c.args.args.now) _ 5 c.in-ok-trader.ensures)
+pub overflow_cast-result-6 : goal.overflow_cast-result-6
+overflow_cast-result-6 c = omega (arith, numbers_bound of.Point (max32 ∷ max32 ∷ max32 ∷ max32 ∷ max32 ∷ max32 ∷ []) (texts_of c.args.args.now) _ 5 c.in_ok-trader.ensures)

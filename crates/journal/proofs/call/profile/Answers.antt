@@ -34,18 +34,18 @@ returns-then-args-lt2 c =
     let e = length_texts ws in
     chosen_no (leb 2 (length (texts_of ws))) (whole (λ i. get_or (texts_of ws) i []) (drop 2 (texts_of ws))) (Err (Form of.Profile)) (lt-leb 2 (length (texts_of ws)) (omega arith))
 
-pub returns-in-err-spelled : goal.returns-in-err-spelled
-returns-in-err-spelled c =
+pub returns-in_err-spelled : goal.returns-in_err-spelled
+returns-in_err-spelled c =
     let w = text_at c.args.args.now in
-    broke_call c.from-residual.result (word_in Name NotName (w 0)) (λ _. form w (texts_of (drop 2 c.args.args.now)) (Ok tt) (shape_in (w 1))) c.in-err-spelled.field-0.0 c.from-residual.ensures.1 c.in-err-spelled.ensures
+    broke_call c.from_residual.result (word_in Name NotName (w 0)) (λ _. form w (texts_of (drop 2 c.args.args.now)) (Ok tt) (shape_in (w 1))) c.in_err-spelled.field-0.0 c.from_residual.ensures.1 c.in_err-spelled.ensures
     ∙ long c.args.args.now (omega arith)
 
-pub returns-in-default : goal.returns-in-default
-returns-in-default c =
+pub returns-in_default : goal.returns-in_default
+returns-in_default c =
     let w = text_at c.args.args.now in
     let rest = texts_of (drop 2 c.args.args.now) in
-    ap (form w rest (Ok tt)) c.in-default.ensures.value
-    ∙ ap (λ (n : Result Unit Fault). form w rest n (shape_in (w 1))) c.in-ok-spelled.ensures
+    ap (form w rest (Ok tt)) c.in_default.ensures.value
+    ∙ ap (λ (n : Result Unit Fault). form w rest n (shape_in (w 1))) c.in_ok-spelled.ensures
     ∙ long c.args.args.now (omega arith)
 
 pub returns : goal.returns
@@ -53,7 +53,7 @@ returns c =
     let w = text_at c.args.args.now in
     let rest = texts_of (drop 2 c.args.args.now) in
     c.shaped.ensures
-    ∙ ap (λ (ws : List (Bor (List ℕ))). calls.shaped_of c.in-Some.shape (w 0) (texts_of ws)) c.split-at.ensures.back
+    ∙ ap (λ (ws : List (Bor (List ℕ))). calls.shaped_of c.in-Some.shape (w 0) (texts_of ws)) c.split_at.ensures.back
     ∙ ap (form w rest (Ok tt)) c.in-Some.ensures.value
-    ∙ ap (λ (n : Result Unit Fault). form w rest n (shape_in (w 1))) c.in-ok-spelled.ensures
+    ∙ ap (λ (n : Result Unit Fault). form w rest n (shape_in (w 1))) c.in_ok-spelled.ensures
     ∙ long c.args.args.now (omega arith)

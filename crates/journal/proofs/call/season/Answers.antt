@@ -25,33 +25,33 @@ whole name w = form name w (number_of max32 (w 0)) (word_in File NotFile (w 1)) 
 pub returns-then-args-ne4 : goal.returns-then-args-ne4
 returns-then-args-ne4 c = sized_not of.Profile 4 c.args.args.now _ (λ e. omega arith)
 
-pub returns-in-err-segment : goal.returns-in-err-segment
-returns-in-err-segment c =
+pub returns-in_err-segment : goal.returns-in_err-segment
+returns-in_err-segment c =
     let w = text_at c.args.args.now in
-    broke_call c.from-residual.result (number_of max32 (w 0)) (λ n. form c.args.name.now w (Ok n) (word_in File NotFile (w 1)) (bytes_eq (w 2) (codes "over"))) c.in-err-segment.field-0.0 c.from-residual.ensures.1 c.in-err-segment.ensures.value
+    broke_call c.from_residual.result (number_of max32 (w 0)) (λ n. form c.args.name.now w (Ok n) (word_in File NotFile (w 1)) (bytes_eq (w 2) (codes "over"))) c.in_err-segment.field-0.0 c.from_residual.ensures.1 c.in_err-segment.ensures.value
     ∙ sized_is of.Profile 4 c.args.args.now (whole c.args.name.now) (omega arith)
 
-pub returns-in-err-spelled : goal.returns-in-err-spelled
-returns-in-err-spelled c =
+pub returns-in_err-spelled : goal.returns-in_err-spelled
+returns-in_err-spelled c =
     let w = text_at c.args.args.now in
-    broke_call c.from-residual-in-err-spelled.result (word_in File NotFile (w 1)) (λ _. form c.args.name.now w (Ok c.in-ok-segment.segment) (Ok tt) (bytes_eq (w 2) (codes "over"))) c.in-err-spelled.field-0.0 c.from-residual-in-err-spelled.ensures.1 c.in-err-spelled.ensures
-    ∙ ap (λ (s : Result ℕ Fault). form c.args.name.now w s (word_in File NotFile (w 1)) (bytes_eq (w 2) (codes "over"))) c.in-ok-segment.ensures.value
+    broke_call c.from_residual-in_err-spelled.result (word_in File NotFile (w 1)) (λ _. form c.args.name.now w (Ok c.in_ok-segment.segment) (Ok tt) (bytes_eq (w 2) (codes "over"))) c.in_err-spelled.field-0.0 c.from_residual-in_err-spelled.ensures.1 c.in_err-spelled.ensures
+    ∙ ap (λ (s : Result ℕ Fault). form c.args.name.now w s (word_in File NotFile (w 1)) (bytes_eq (w 2) (codes "over"))) c.in_ok-segment.ensures.value
     ∙ sized_is of.Profile 4 c.args.args.now (whole c.args.name.now) (omega arith)
 
-pub returns-then-not-is-word : goal.returns-then-not-is-word
-returns-then-not-is-word c =
+pub returns-then-not-is_word : goal.returns-then-not-is_word
+returns-then-not-is_word c =
     let w = text_at c.args.args.now in
     let name = c.args.name.now in
-    ap (form name w (Ok c.in-ok-segment.segment) (Ok tt)) c.if-not-is-word.ensures
-    ∙ ap (λ (f : Result Unit Fault). form name w (Ok c.in-ok-segment.segment) f (bytes_eq (w 2) (codes "over"))) c.in-ok-spelled.ensures
-    ∙ ap (λ (s : Result ℕ Fault). form name w s (word_in File NotFile (w 1)) (bytes_eq (w 2) (codes "over"))) c.in-ok-segment.ensures.value
+    ap (form name w (Ok c.in_ok-segment.segment) (Ok tt)) c.if-not-is_word.ensures
+    ∙ ap (λ (f : Result Unit Fault). form name w (Ok c.in_ok-segment.segment) f (bytes_eq (w 2) (codes "over"))) c.in_ok-spelled.ensures
+    ∙ ap (λ (s : Result ℕ Fault). form name w s (word_in File NotFile (w 1)) (bytes_eq (w 2) (codes "over"))) c.in_ok-segment.ensures.value
     ∙ sized_is of.Profile 4 c.args.args.now (whole name) (omega arith)
 
 pub returns : goal.returns
 returns c =
     let w = text_at c.args.args.now in
     let name = c.args.name.now in
-    ap (form name w (Ok c.in-ok-segment.segment) (Ok tt)) c.if-not-is-word.ensures
-    ∙ ap (λ (f : Result Unit Fault). form name w (Ok c.in-ok-segment.segment) f (bytes_eq (w 2) (codes "over"))) c.in-ok-spelled.ensures
-    ∙ ap (λ (s : Result ℕ Fault). form name w s (word_in File NotFile (w 1)) (bytes_eq (w 2) (codes "over"))) c.in-ok-segment.ensures.value
+    ap (form name w (Ok c.in_ok-segment.segment) (Ok tt)) c.if-not-is_word.ensures
+    ∙ ap (λ (f : Result Unit Fault). form name w (Ok c.in_ok-segment.segment) f (bytes_eq (w 2) (codes "over"))) c.in_ok-spelled.ensures
+    ∙ ap (λ (s : Result ℕ Fault). form name w s (word_in File NotFile (w 1)) (bytes_eq (w 2) (codes "over"))) c.in_ok-segment.ensures.value
     ∙ sized_is of.Profile 4 c.args.args.now (whole name) (omega arith)

@@ -21,10 +21,10 @@ form w o = some NotRule o (λ r. Ok (calls.share (w 0) r))
 pub returns-then-args-ne2 : goal.returns-then-args-ne2
 returns-then-args-ne2 c = sized_not of.Share 2 c.args.args.now _ (λ e. omega arith)
 
-pub returns-in-default : goal.returns-in-default
+pub returns-in_default : goal.returns-in_default
 unfolding form
-returns-in-default c =
-    ap (form (text_at c.args.args.now)) c.in-default.ensures.value ∙ sized_is of.Share 2 c.args.args.now (λ w. form w (rule_in (w 1))) (omega arith)
+returns-in_default c =
+    ap (form (text_at c.args.args.now)) c.in_default.ensures.value ∙ sized_is of.Share 2 c.args.args.now (λ w. form w (rule_in (w 1))) (omega arith)
 
 pub returns : goal.returns
 unfolding form

@@ -18,14 +18,14 @@ use Rattle.journal.proofs.call.table.Goals as goal
 pub returns-then-args-ne1 : goal.returns-then-args-ne1
 returns-then-args-ne1 c = sized_not of.Profile 1 c.args.args.now _ (λ e. omega arith)
 
-pub returns-in-err-spelled : goal.returns-in-err-spelled
-returns-in-err-spelled c =
+pub returns-in_err-spelled : goal.returns-in_err-spelled
+returns-in_err-spelled c =
     let name = c.args.name.now in
-    broke_call c.from-residual.result (word_in File NotFile (text_at c.args.args.now 0)) (λ _. Ok (calls.table name (text_at c.args.args.now 0))) c.in-err-spelled.field-0.0 c.from-residual.ensures.1 c.in-err-spelled.ensures
+    broke_call c.from_residual.result (word_in File NotFile (text_at c.args.args.now 0)) (λ _. Ok (calls.table name (text_at c.args.args.now 0))) c.in_err-spelled.field-0.0 c.from_residual.ensures.1 c.in_err-spelled.ensures
     ∙ sized_is of.Profile 1 c.args.args.now (λ w. made (word_in File NotFile (w 0)) (λ _. Ok (calls.table name (w 0)))) (omega arith)
 
 pub returns : goal.returns
 returns c =
     let name = c.args.name.now in
-    ap (λ (r : Result Unit Fault). made r (λ _. Ok (calls.table name (text_at c.args.args.now 0)))) c.in-ok-spelled.ensures
+    ap (λ (r : Result Unit Fault). made r (λ _. Ok (calls.table name (text_at c.args.args.now 0)))) c.in_ok-spelled.ensures
     ∙ sized_is of.Profile 1 c.args.args.now (λ w. made (word_in File NotFile (w 0)) (λ _. Ok (calls.table name (w 0)))) (omega arith)

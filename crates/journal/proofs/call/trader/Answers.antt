@@ -22,25 +22,25 @@ form w = made (word_in Name NotName (w 0)) (λ _. Ok (calls.trader (Some (w 0)))
 abbrev rest : List (List ℕ) → Result Said Fault
 rest ws = sized of.Trader 1 ws (form (λ i. get_or ws i []))
 
-pub returns-then-is-empty : goal.returns-then-is-empty
-returns-then-is-empty c =
-    chosen_yes (eqb (length (texts_of c.args.args.now)) 0) (Ok (calls.trader None)) (rest (texts_of c.args.args.now)) (no_words c.args.args.now (true-eqb _ 0 c.if-is-empty.ensures))
+pub returns-then-is_empty : goal.returns-then-is_empty
+returns-then-is_empty c =
+    chosen_yes (eqb (length (texts_of c.args.args.now)) 0) (Ok (calls.trader None)) (rest (texts_of c.args.args.now)) (no_words c.args.args.now (true-eqb _ 0 c.if-is_empty.ensures))
 
 pub returns-then-args-ne1 : goal.returns-then-args-ne1
 returns-then-args-ne1 c =
     sized_not of.Trader 1 c.args.args.now (form (λ i. get_or (texts_of c.args.args.now) i [])) (λ e. omega arith)
-    ∙ chosen_no (eqb (length (texts_of c.args.args.now)) 0) (Ok (calls.trader None)) (rest (texts_of c.args.args.now)) (some_words c.args.args.now (false-eqb _ 0 c.if-is-empty.ensures))
+    ∙ chosen_no (eqb (length (texts_of c.args.args.now)) 0) (Ok (calls.trader None)) (rest (texts_of c.args.args.now)) (some_words c.args.args.now (false-eqb _ 0 c.if-is_empty.ensures))
 
-pub returns-in-err-spelled : goal.returns-in-err-spelled
-returns-in-err-spelled c =
+pub returns-in_err-spelled : goal.returns-in_err-spelled
+returns-in_err-spelled c =
     let w = text_at c.args.args.now in
-    broke_call c.from-residual.result (word_in Name NotName (w 0)) (λ _. Ok (calls.trader (Some (w 0)))) c.in-err-spelled.field-0.0 c.from-residual.ensures.1 c.in-err-spelled.ensures
+    broke_call c.from_residual.result (word_in Name NotName (w 0)) (λ _. Ok (calls.trader (Some (w 0)))) c.in_err-spelled.field-0.0 c.from_residual.ensures.1 c.in_err-spelled.ensures
     ∙ sized_is of.Trader 1 c.args.args.now form (omega arith)
-    ∙ chosen_no (eqb (length (texts_of c.args.args.now)) 0) (Ok (calls.trader None)) (rest (texts_of c.args.args.now)) (some_words c.args.args.now (false-eqb _ 0 c.if-is-empty.ensures))
+    ∙ chosen_no (eqb (length (texts_of c.args.args.now)) 0) (Ok (calls.trader None)) (rest (texts_of c.args.args.now)) (some_words c.args.args.now (false-eqb _ 0 c.if-is_empty.ensures))
 
 pub returns : goal.returns
 returns c =
     let w = text_at c.args.args.now in
-    ap (λ (r : Result Unit Fault). made r (λ _. Ok (calls.trader (Some (w 0))))) c.in-ok-spelled.ensures
+    ap (λ (r : Result Unit Fault). made r (λ _. Ok (calls.trader (Some (w 0))))) c.in_ok-spelled.ensures
     ∙ sized_is of.Trader 1 c.args.args.now form (omega arith)
-    ∙ chosen_no (eqb (length (texts_of c.args.args.now)) 0) (Ok (calls.trader None)) (rest (texts_of c.args.args.now)) (some_words c.args.args.now (false-eqb _ 0 c.if-is-empty.ensures))
+    ∙ chosen_no (eqb (length (texts_of c.args.args.now)) 0) (Ok (calls.trader None)) (rest (texts_of c.args.args.now)) (some_words c.args.args.now (false-eqb _ 0 c.if-is_empty.ensures))

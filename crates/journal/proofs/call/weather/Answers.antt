@@ -24,16 +24,16 @@ form t s = some NotTemperature t (λ d. made s (λ n. Ok (calls.opens d n)))
 pub returns-then-args-ne2 : goal.returns-then-args-ne2
 returns-then-args-ne2 c = sized_not of.Open 2 c.args.args.now _ (λ e. omega arith)
 
-pub returns-in-default : goal.returns-in-default
-returns-in-default c =
+pub returns-in_default : goal.returns-in_default
+returns-in_default c =
     let w = text_at c.args.args.now in
-    ap (λ (r : Result ℤ Fault). form (result_ok r) (number_of 255 (w 1))) c.in-default.ensures
+    ap (λ (r : Result ℤ Fault). form (result_ok r) (number_of 255 (w 1))) c.in_default.ensures
     ∙ sized_is of.Open 2 c.args.args.now (λ v. form (result_ok (tenths_of (v 0))) (number_of 255 (v 1))) (omega arith)
 
-pub returns-in-err-season : goal.returns-in-err-season
-returns-in-err-season c =
+pub returns-in_err-season : goal.returns-in_err-season
+returns-in_err-season c =
     let w = text_at c.args.args.now in
-    broke_call c.from-residual.result (number_of 255 (w 1)) (λ n. Ok (calls.opens c.in-Ok.temperature n)) c.in-err-season.field-0.0 c.from-residual.ensures.1 c.in-err-season.ensures.value
+    broke_call c.from_residual.result (number_of 255 (w 1)) (λ n. Ok (calls.opens c.in-Ok.temperature n)) c.in_err-season.field-0.0 c.from_residual.ensures.1 c.in_err-season.ensures.value
     ∙ ap (λ (r : Result ℤ Fault). form (result_ok r) (number_of 255 (w 1))) c.in-Ok.ensures
     ∙ sized_is of.Open 2 c.args.args.now (λ v. form (result_ok (tenths_of (v 0))) (number_of 255 (v 1))) (omega arith)
 
@@ -42,7 +42,7 @@ returns c =
     let w = text_at c.args.args.now in
     let t = c.in-Ok.temperature in
     let fits : SFits w16 t = search rules in
-    ap (λ (z : ℤ). Ok (calls.opens z c.in-ok-season.season)) (to_z-of_z w16 t fits)
-    ∙ went_on (number_of 255 (w 1)) (λ n. Ok (calls.opens t n)) c.in-ok-season.season c.in-ok-season.ensures.value
+    ap (λ (z : ℤ). Ok (calls.opens z c.in_ok-season.season)) (to_z-of_z w16 t fits)
+    ∙ went_on (number_of 255 (w 1)) (λ n. Ok (calls.opens t n)) c.in_ok-season.season c.in_ok-season.ensures.value
     ∙ ap (λ (r : Result ℤ Fault). form (result_ok r) (number_of 255 (w 1))) c.in-Ok.ensures
     ∙ sized_is of.Open 2 c.args.args.now (λ v. form (result_ok (tenths_of (v 0))) (number_of 255 (v 1))) (omega arith)

@@ -7,5 +7,5 @@ use Rattle.std.proofs.lemmas.Bool.Decides.{Decides-eqb}
 
 pub returns : goal.returns
 returns c =
-    decided _ _ c.eq.result (slice_eq-Decides Decides-eqb c.args.word.now c.as-bytes.result.now c.eq.result c.eq.ensures)
-    ∙ ap (bytes_eq c.args.word.now) c.as-bytes.ensures.value
+    decided _ _ c.eq.result (slice_eq-Decides Decides-eqb c.args.word.now c.as_bytes.result.now c.eq.result c.eq.ensures)
+    ∙ ap (bytes_eq c.args.word.now) c.as_bytes.ensures.value

@@ -6,6 +6,6 @@ use Rattle.journal.proofs.number.number.Goals as goal
 pub returns : goal.returns
 returns c =
     record {
-      value = c.read-number.ensures;
-      back = λ n h e. c.read-number.ensures ∙ ap (number_of c.args.limit) e ∙ number_back c.args.limit n (omega arith) h;
+      value = c.read_number.ensures;
+      back = λ n h e. c.read_number.ensures ∙ ap (number_of c.args.limit) e ∙ number_back c.args.limit n (omega arith) h;
     }

@@ -5,8 +5,8 @@ use Rattle.journal.proofs.number.put_number.Goals as goal
 pub loop-left-init : goal.loop-left-init
 loop-left-init c = record { small = omega arith; rest = omega arith; within = omega arith; places = refl; whole = append-nil (decimal c.args.n) }
 
-pub overflow-sub-at : goal.overflow-sub-at
-overflow-sub-at c = omega (arith, room _ _ _ _ c.loop-left.invariant)
+pub overflow_sub-at : goal.overflow_sub-at
+overflow_sub-at c = omega (arith, room _ _ _ _ c.loop-left.invariant)
 
 pub loop-left-preserved : goal.loop-left-preserved
 loop-left-preserved c =
@@ -19,10 +19,10 @@ loop-left-preserved c =
       whole = more _ _ _ _ s c.loop-left-test.true;
     }
 
-pub overflow-sub-at-2 : goal.overflow-sub-at-2
-overflow-sub-at-2 c = omega (arith, room _ _ _ _ c.loop-left.invariant)
+pub overflow_sub-at-2 : goal.overflow_sub-at-2
+overflow_sub-at-2 c = omega (arith, room _ _ _ _ c.loop-left.invariant)
 
 pub returns : goal.returns
 returns c =
-    extended c.extend-from-slice.result _ _ c.split-at.result.1.now (decimal c.args.n) c.extend-from-slice.ensures.items
-    (c.split-at.ensures.back ∙ last _ _ _ _ c.loop-left.invariant (omega arith))
+    extended c.extend_from_slice.result _ _ c.split_at.result.1.now (decimal c.args.n) c.extend_from_slice.ensures.items
+    (c.split_at.ensures.back ∙ last _ _ _ _ c.loop-left.invariant (omega arith))

@@ -4,8 +4,8 @@ use Rattle.std.proofs.lemmas.List.{take_all}
 use Rattle.journal.proofs.Values.{digit_of, value_step, value_front}
 use Rattle.journal.proofs.number.value_of.Goals as goal
 
-pub overflow-sub-digit : goal.overflow-sub-digit
-overflow-sub-digit c = omega (arith, (digit_of c.args.word.now c.loop-b.b-index c.requires c.loop-b-test.true).low)
+pub overflow_sub-digit : goal.overflow_sub-digit
+overflow_sub-digit c = omega (arith, (digit_of c.args.word.now c.loop-b.b-index c.requires c.loop-b-test.true).low)
 
 pub loop-b-preserved : goal.loop-b-preserved
 loop-b-preserved c = omega (arith, c.loop-b.invariant, value_step c.args.word.now c.loop-b.b-index c.requires c.loop-b-test.true)

@@ -12,7 +12,7 @@ pub loop-word-preserved : goal.loop-word-preserved
 loop-word-preserved c =
     let some : 0 < length c.loop-word.word.now = omega (arith, false-eqb _ 0 c.loop-word-test.ensures) in
     subst (λ (ws : List (List ℕ)). Sofar c.args.line.now ws c.cut-in-loop-word.result.0.now c.cut-in-loop-word.result.1.now)
-    (sym (ap texts_of c.in-ok-push.ensures.items ∙ texts_push (vec_items c.loop-word.words) c.loop-word.word))
+    (sym (ap texts_of c.in_ok-push.ensures.items ∙ texts_push (vec_items c.loop-word.words) c.loop-word.word))
     (sofar_more _ _ _ _ _ _ c.loop-word.invariant some c.cut-in-loop-word.ensures.word c.cut-in-loop-word.ensures.rest)
 
 pub loop-word-smaller : goal.loop-word-smaller

@@ -8,5 +8,5 @@ use Rattle.ledger_tests.proofs.days.taking.Goals as goal
 
 pub returns : goal.returns
 returns c =
-    let e = c.take-inflow.ensures in
+    let e = c.take_inflow.ensures in
     handed (λ (b : Book) (m : MeasuredDay). is_measured b.phase m.number ≡ true) _ c.args.day _ _ c.args.ledger.now.book _ _ e.answer e.state (eq-eqb _ _ refl)

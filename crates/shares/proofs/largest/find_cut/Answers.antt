@@ -16,9 +16,9 @@ pub loop-low-preserved-then-guesses-eq0 : goal.loop-low-preserved-then-guesses-e
 loop-low-preserved-then-guesses-eq0 c =
     let rs = c.args.rems.now in
     let mid = c.if-guesses-gt0.mid in
-    let below : mid < c.loop-low.high = elim c.if-guesses-gt0.branch [ then-guesses-gt0 w ↦ omega (arith, w.mid-is, w.even-cut-mid.ensures.to) | else-guesses-gt0 w ↦ omega (arith, w.mid-is) ] in
-    let up = c.least-from-low.ensures in
-    let down = c.greatest-to-high.ensures in
+    let below : mid < c.loop-low.high = elim c.if-guesses-gt0.branch [ then-guesses-gt0 w ↦ omega (arith, w.mid-is, w.even_cut-mid.ensures.to) | else-guesses-gt0 w ↦ omega (arith, w.mid-is) ] in
+    let up = c.least_from-low.ensures in
+    let down = c.greatest_to-high.ensures in
     elim c.if-higher-n-2.branch [
       | then-higher-n-2 w ↦
           let past = w.past-is ∙ c.above-higher.ensures.count ∙ ap (higher rs) (sym w.high-is) ∙ sym down.same in

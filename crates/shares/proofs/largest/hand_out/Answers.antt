@@ -4,14 +4,14 @@ use Rattle.shares.specs.LargestLaws.{handed, handed_all, sofar_none, sofar_more}
 use Rattle.shares.proofs.largest.hand_out.Goals as goal
 use Rattle.shares.proofs.largest.hand_out.Goals.{then-r-t, else-r-t+then-r-t-2+then-more-gt0, else-r-t+else-r-t-2, else-r-t-2-via-then-r-t-2+else-more-gt0, else-r-t-2-via-else-r-t-2}
 
-pub overflow-mul-floor : goal.overflow-mul-floor
-overflow-mul-floor c = record { fits = (handed _ _ _ _ _ _ c.requires.fairly c.requires.whole c.loop-i-test.true c.requires.few c.requires.enough c.loop-i.invariant.rest).product_fits }
+pub overflow_mul-floor : goal.overflow_mul-floor
+overflow_mul-floor c = record { fits = (handed _ _ _ _ _ _ c.requires.fairly c.requires.whole c.loop-i-test.true c.requires.few c.requires.enough c.loop-i.invariant.rest).product_fits }
 
-pub overflow-add-out : goal.overflow-add-out
-overflow-add-out c = record { fits = (handed _ _ _ _ _ _ c.requires.fairly c.requires.whole c.loop-i-test.true c.requires.few c.requires.enough c.loop-i.invariant.rest).floor_fits }
+pub overflow_add-out : goal.overflow_add-out
+overflow_add-out c = record { fits = (handed _ _ _ _ _ _ c.requires.fairly c.requires.whole c.loop-i-test.true c.requires.few c.requires.enough c.loop-i.invariant.rest).floor_fits }
 
-pub overflow-add-out-then-more-gt0 : goal.overflow-add-out-then-more-gt0
-overflow-add-out-then-more-gt0 c = record { fits = (handed _ _ _ _ _ _ c.requires.fairly c.requires.whole c.loop-i-test.true c.requires.few c.requires.enough c.loop-i.invariant.rest).floor_fits }
+pub overflow_add-out-then-more-gt0 : goal.overflow_add-out-then-more-gt0
+overflow_add-out-then-more-gt0 c = record { fits = (handed _ _ _ _ _ _ c.requires.fairly c.requires.whole c.loop-i-test.true c.requires.few c.requires.enough c.loop-i.invariant.rest).floor_fits }
 
 pub loop-i-init : goal.loop-i-init
 loop-i-init c = sofar_none _ _ _ _ _ c.requires.rest c.requires.rems

@@ -4,11 +4,11 @@ use Rattle.shares.specs.Rules.{remainders}
 use Rattle.shares.specs.LargestLaws.{parted, parted_all, given_all}
 use Rattle.shares.proofs.largest.part.Goals as goal
 
-pub overflow-mul-litres : goal.overflow-mul-litres
-overflow-mul-litres c = record { fits = (parted _ _ _ _ _ c.requires.fairly c.requires.whole c.loop-i-test.true c.loop-i.invariant.0).product_fits }
+pub overflow_mul-litres : goal.overflow_mul-litres
+overflow_mul-litres c = record { fits = (parted _ _ _ _ _ c.requires.fairly c.requires.whole c.loop-i-test.true c.loop-i.invariant.0).product_fits }
 
-pub overflow-add-given : goal.overflow-add-given
-overflow-add-given c = record { fits = (parted _ _ _ _ _ c.requires.fairly c.requires.whole c.loop-i-test.true c.loop-i.invariant.0).given_fits }
+pub overflow_add-given : goal.overflow_add-given
+overflow_add-given c = record { fits = (parted _ _ _ _ _ c.requires.fairly c.requires.whole c.loop-i-test.true c.loop-i.invariant.0).given_fits }
 
 pub loop-i-preserved : goal.loop-i-preserved
 loop-i-preserved c =
@@ -16,8 +16,8 @@ loop-i-preserved c =
     let more = fill_by_more (λ k. get_or (remainders c.args.quantity c.args.weights.now) k 0) c.loop-i.out c.loop-i.i 0 (omega arith) c.loop-i.invariant.1 in
     (t.given_next, rw t.remainder more)
 
-pub overflow-sub-result : goal.overflow-sub-result
-overflow-sub-result c = (given_all _ _ _ _ c.requires.fairly c.loop-i-test.false c.loop-i.invariant.0).0
+pub overflow_sub-result : goal.overflow_sub-result
+overflow_sub-result c = (given_all _ _ _ _ c.requires.fairly c.loop-i-test.false c.loop-i.invariant.0).0
 
 pub returns : goal.returns
 returns c = record {

@@ -5,14 +5,14 @@ use Rattle.shares.specs.Fair.{max_weight}
 use Rattle.shares.specs.Fairness.{over, too_much, too_many, too_heavy, all_well}
 use Rattle.shares.proofs.rule.fair_total.Goals as goal
 
-pub returns-then-quantity-gt-MAX-QUANTITY : goal.returns-then-quantity-gt-MAX-QUANTITY
-returns-then-quantity-gt-MAX-QUANTITY c = too_much _ _ (omega arith)
+pub returns-then-quantity-gt-MAX_QUANTITY : goal.returns-then-quantity-gt-MAX_QUANTITY
+returns-then-quantity-gt-MAX_QUANTITY c = too_much _ _ (omega arith)
 
-pub returns-then-weights-gt-MAX-WEIGHTS : goal.returns-then-weights-gt-MAX-WEIGHTS
-returns-then-weights-gt-MAX-WEIGHTS c = too_many _ _ (omega arith)
+pub returns-then-weights-gt-MAX_WEIGHTS : goal.returns-then-weights-gt-MAX_WEIGHTS
+returns-then-weights-gt-MAX_WEIGHTS c = too_many _ _ (omega arith)
 
-pub returns-then-w-gt-MAX-WEIGHT : goal.returns-then-w-gt-MAX-WEIGHT
-returns-then-w-gt-MAX-WEIGHT c = too_heavy _ _ c.loop-w.w-index (omega arith) (omega arith)
+pub returns-then-w-gt-MAX_WEIGHT : goal.returns-then-w-gt-MAX_WEIGHT
+returns-then-w-gt-MAX_WEIGHT c = too_heavy _ _ c.loop-w.w-index (omega arith) (omega arith)
 
 pub loop-w-preserved : goal.loop-w-preserved
 loop-w-preserved c =

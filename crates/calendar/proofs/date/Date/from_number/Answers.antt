@@ -4,6 +4,6 @@ use Rattle.calendar.proofs.date.Date.from_number.Goals as goal
 
 pub returns : goal.returns
 returns c =
-    let year = c.year-at-year.ensures in
-    let month = c.month-at-month.ensures in
-    (omega arith, found _ _ _ _ _ _ c.is-leap-leap.ensures c.days-before.ensures.value year.year month.month year.sum month.from month.to)
+    let year = c.year_at-year.ensures in
+    let month = c.month_at-month.ensures in
+    (omega arith, found _ _ _ _ _ _ c.is_leap-leap.ensures c.days_before.ensures.value year.year month.month year.sum month.from month.to)

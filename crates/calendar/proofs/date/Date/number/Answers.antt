@@ -6,4 +6,4 @@ use Rattle.calendar.proofs.date.Date.number.Goals as goal
 pub returns : goal.returns
 returns c =
     let h : is_day c.args.self ≡ true = search rules in
-    rw c.days-before.ensures (record { value = rw h; back = (at_most c.args.self h, own c.args.self h) })
+    rw c.days_before.ensures (record { value = rw h; back = (at_most c.args.self h, own c.args.self h) })

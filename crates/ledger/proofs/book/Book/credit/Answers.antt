@@ -6,8 +6,8 @@ use Rattle.ledger.proofs.Rows.{shared_rows_none}
 use Rattle.ledger.proofs.Traders.{credited_to_none}
 use Rattle.ledger.proofs.book.Book.credit.Goals as goal
 
-pub credit-one-requires : goal.credit-one-requires
-credit-one-requires c =
+pub credit_one-requires : goal.credit_one-requires
+credit_one-requires c =
     let t = turn (factors_at c.args.told.now) c.args.self.now c.args.sheet.now c.args.shares.now c.args.n c.requires.sound c.requires.rows c.requires.small c.loop-i.self c.loop-i.sheet c.loop-i.i c.loop-i-test.true c.loop-i.invariant.0 c.loop-i.invariant.1 in
     (t.place, (t.share, t.account))
 
@@ -33,7 +33,7 @@ loop-i-preserved c =
     let l = c.args.self.now in
     let s = c.args.sheet.now in
     let ss = c.args.shares.now in (
-      credit_step f l s ss c.args.n c.requires.sound c.requires.rows c.requires.small c.loop-i.self c.credit-one.new.self c.loop-i.sheet c.loop-i.i c.loop-i.invariant.0 c.loop-i.invariant.1 c.credit-one.ensures,
+      credit_step f l s ss c.args.n c.requires.sound c.requires.rows c.requires.small c.loop-i.self c.credit_one.new.self c.loop-i.sheet c.loop-i.i c.loop-i.invariant.0 c.loop-i.invariant.1 c.credit_one.ensures,
       row_step f l s ss c.args.n c.requires.sound c.requires.rows c.requires.small c.loop-i.sheet c.loop-i.i c.shared.result c.loop-i.invariant.1 c.shared.ensures,
     )
 

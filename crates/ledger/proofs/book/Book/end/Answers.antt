@@ -7,5 +7,5 @@ use Rattle.ledger.proofs.book.Book.end.Goals as goal
 
 pub returns : goal.returns
 returns c =
-    let state = ap (λ (m : Book). with_phase m Idle) c.clear-metered.ensures in
+    let state = ap (λ (m : Book). with_phase m Idle) c.clear_metered.ensures in
     record { state = state; sound = subst Sound (sym state) (ended_sound c.args.self.now c.requires) }

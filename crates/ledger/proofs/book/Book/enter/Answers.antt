@@ -8,10 +8,10 @@ use Rattle.ledger.proofs.Accepted.{enters}
 use Rattle.ledger.proofs.Traders.{metered_le}
 use Rattle.ledger.proofs.book.Book.enter.Goals as goal
 
-pub overflow-add-self : goal.overflow-add-self
-overflow-add-self c =
+pub overflow_add-self : goal.overflow_add-self
+overflow_add-self c =
     let l = c.args.self.now in
-    let k = enters l c.args.day.now c.args.trader c.args.litres (sym c.enter-fault.ensures ∙ c.in-None.is) in
+    let k = enters l c.args.day.now c.args.trader c.args.litres (sym c.enter_fault.ensures ∙ c.in-None.is) in
     let w = k.room in
     let m = metered_le l.traders c.args.trader in
     record { fits = omega arith }
@@ -22,7 +22,7 @@ returns-in-None c =
     let d = c.args.day.now in
     let t = c.args.trader in
     let q = c.args.litres in
-    let none : enter_fault l d t q ≡ None = sym c.enter-fault.ensures ∙ c.in-None.is in
+    let none : enter_fault l d t q ≡ None = sym c.enter_fault.ensures ∙ c.in-None.is in
     let state = sym (ap (λ (o : Option Refusal). unless o (with_traders l (entered l.traders t q)) l) none) in
     record {
       answer = sym (ap (λ (o : Option Refusal). answered o tt) none);

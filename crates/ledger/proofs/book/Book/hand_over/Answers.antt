@@ -10,13 +10,13 @@ use Rattle.ledger.proofs.AcceptedReadings.{hands_over}
 use Rattle.ledger.proofs.KeepReadings.{hand_sound}
 use Rattle.ledger.proofs.book.Book.hand_over.Goals as goal
 
-pub book-row-by-requires : goal.book-row-by-requires
-book-row-by-requires c =
-    let k = (hands_over c.args.self.now c.args.sheet.now c.args.slip c.args.trader (sym c.hand-fault.ensures ∙ c.in-None.is)).books in
+pub book_row-by-requires : goal.book_row-by-requires
+book_row-by-requires c =
+    let k = (hands_over c.args.self.now c.args.sheet.now c.args.slip c.args.trader (sym c.hand_fault.ensures ∙ c.in-None.is)).books in
     record { sound = c.requires; row = and_from _ _ k.ranges (lt-ltb _ _ k.owned); left = k.left }
 
 pub booked-requires : goal.booked-requires
-booked-requires c = (hands_over c.args.self.now c.args.sheet.now c.args.slip c.args.trader (sym c.hand-fault.ensures ∙ c.in-None.is)).books.ranges
+booked-requires c = (hands_over c.args.self.now c.args.sheet.now c.args.slip c.args.trader (sym c.hand_fault.ensures ∙ c.in-None.is)).books.ranges
 
 pub returns-in-None : goal.returns-in-None
 returns-in-None c =
@@ -24,12 +24,12 @@ returns-in-None c =
     let s = c.args.sheet.now in
     let slip = c.args.slip in
     let row = row_at s slip.point in
-    let none : hand_fault l s c.args.slip c.args.trader ≡ None = sym c.hand-fault.ensures ∙ c.in-None.is in
-    let by = c.book-row-by.result in
+    let none : hand_fault l s c.args.slip c.args.trader ≡ None = sym c.hand_fault.ensures ∙ c.in-None.is in
+    let by = c.book_row-by.result in
     let fits : SFits w64 by = search rules in
-    let state = c.book-row-by.ensures.state ∙ sym (ap (λ (o : Option Refusal). unless o (booked_book l row) l) none) in
+    let state = c.book_row-by.ensures.state ∙ sym (ap (λ (o : Option Refusal). unless o (booked_book l row) l) none) in
     record {
-      answer = ap (λ (z : ℤ). Ok z) (to_z-of_z w64 by fits ∙ c.book-row-by.ensures.told) ∙ sym (ap (λ (o : Option Refusal). handed_back o slip (row_correction row)) none);
+      answer = ap (λ (z : ℤ). Ok z) (to_z-of_z w64 by fits ∙ c.book_row-by.ensures.told) ∙ sym (ap (λ (o : Option Refusal). handed_back o slip (row_correction row)) none);
       state = state;
       rows = ap (set s slip.point) c.booked.ensures ∙ sym (ap (λ (o : Option Refusal). unless o (set s slip.point (booked_row row c.args.trader)) s) none);
       sound = subst Sound (sym state) (hand_sound l s c.args.slip c.args.trader c.requires);

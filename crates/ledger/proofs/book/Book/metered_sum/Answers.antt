@@ -6,8 +6,8 @@ use Rattle.ledger.specs.Accounts.{metered_at, metered_sum}
 use Rattle.ledger.proofs.Loops.{metered_step}
 use Rattle.ledger.proofs.book.Book.metered_sum.Goals as goal
 
-pub overflow-add-all : goal.overflow-add-all
-overflow-add-all c =
+pub overflow_add-all : goal.overflow_add-all
+overflow_add-all c =
     let ts = c.args.self.now.traders in
     let i = c.loop-i.i in
     let p = c.requires.places in

@@ -8,28 +8,28 @@ use Rattle.ledger.proofs.ShareOut.{passed, passed_room, passed_running, weightle
 use Rattle.ledger.proofs.book.Book.share_out.Given as given
 use Rattle.ledger.proofs.book.Book.share_out.Goals as goal
 
-pub weigh-day-total-requires : goal.weigh-day-total-requires
-weigh-day-total-requires g c =
-    passed c.args.self.now c.args.day c.args.sheet.now g.P.Profile.segments (length c.args.uses.now) (length c.args.shares.now) (sym c.share-grounds.ensures ∙ c.in-None.is)
+pub weigh_day-total-requires : goal.weigh_day-total-requires
+weigh_day-total-requires g c =
+    passed c.args.self.now c.args.day c.args.sheet.now g.P.Profile.segments (length c.args.uses.now) (length c.args.shares.now) (sym c.share_grounds.ensures ∙ c.in-None.is)
 
 pub returns-then-total-eq0 : goal.returns-then-total-eq0
 returns-then-total-eq0 g c =
-    let none = sym c.share-grounds.ensures ∙ c.in-None.is in
-    let w = c.weigh-day-total.ensures in
-    let d = weightless c.args.self.now c.args.day c.args.sheet.now (g.P.Profile.tells c.args.profile.now) g.P.Profile.segments c.args.uses.now c.args.shares.now c.weigh-day-total.new.uses g.R.ShareRule.shares
+    let none = sym c.share_grounds.ensures ∙ c.in-None.is in
+    let w = c.weigh_day-total.ensures in
+    let d = weightless c.args.self.now c.args.day c.args.sheet.now (g.P.Profile.tells c.args.profile.now) g.P.Profile.segments c.args.uses.now c.args.shares.now c.weigh_day-total.new.uses g.R.ShareRule.shares
     _ _ none w.written w.total c.quantity-quantity.ensures c.if-quantity-gt0.true c.if-total-eq0.true in
     record { answer = d.answer; state = d.state; rows = d.rows; weighed = d.weighed; given = d.given; sound = c.requires }
 
-pub close-day-requires : goal.close-day-requires
-close-day-requires g c =
+pub close_day-requires : goal.close_day-requires
+close_day-requires g c =
     let l = c.args.self.now in
     let n = g.P.Profile.segments in
-    let none = sym c.share-grounds.ensures ∙ c.in-None.is in
+    let none = sym c.share_grounds.ensures ∙ c.in-None.is in
     let us = length c.args.uses.now in
     let ss = length c.args.shares.now in
     record {
       sound = c.requires;
-      weighed = subst (Weighable l c.args.sheet.now) (sym c.weigh-day-total.auto.uses) (passed l c.args.day c.args.sheet.now n us ss none);
+      weighed = subst (Weighable l c.args.sheet.now) (sym c.weigh_day-total.auto.uses) (passed l c.args.day c.args.sheet.now n us ss none);
       room = passed_room l c.args.day c.args.sheet.now n us ss none;
       running = passed_running l c.args.day c.args.sheet.now n us ss none;
     }
@@ -42,15 +42,15 @@ returns-else-quantity-gt0 g c =
     let rule = g.R.ShareRule.shares in
     let met = g.met.R.ShareRule in
     let law : LawfulRule rule = record { places = met.places; whole = met.whole; near = met.near; refused = met.refused } in
-    let none = sym c.share-grounds.ensures ∙ c.in-None.is in
-    let w = c.weigh-day-total.ensures in
-    let b = c.close-day.ensures in
+    let none = sym c.share_grounds.ensures ∙ c.in-None.is in
+    let w = c.weigh_day-total.ensures in
+    let b = c.close_day.ensures in
     let quantity = c.quantity-quantity.result in
-    let total = c.weigh-day-total.result.total in
+    let total = c.weigh_day-total.result.total in
     let some : (ltb 0 quantity && eqb total 0) ≡ false =
     ⊎_elim (λ h. and_right (ltb 0 quantity) (eqb total 0) (ne_eqb total 0 h.1)) (λ h. and_left (ltb 0 quantity) (eqb total 0) (le-ltb 0 quantity h)) c.else-quantity-gt0.either in
-    let d = shared_out l c.args.day c.args.sheet.now f n c.args.uses.now c.args.shares.now c.weigh-day-total.new.uses rule total quantity
-    none w.written w.total c.quantity-quantity.ensures c.loss-loss.result c.weigh-day-total.result.told c.close-day.new.self c.close-day.new.sheet c.close-day.new.shares
+    let d = shared_out l c.args.day c.args.sheet.now f n c.args.uses.now c.args.shares.now c.weigh_day-total.new.uses rule total quantity
+    none w.written w.total c.quantity-quantity.ensures c.loss-loss.result c.weigh_day-total.result.told c.close_day.new.self c.close_day.new.sheet c.close_day.new.shares
     c.loss-loss.ensures w.told some b.given b.state b.rows in
     record {
       answer = d.answer;

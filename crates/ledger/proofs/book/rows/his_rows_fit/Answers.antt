@@ -11,7 +11,7 @@ loop-i-preserved c =
     let s = c.args.sheet.now in
     let i = c.loop-i.i in
     let test = summable c.args.trader in
-    ap (λ (b : Bool). b && c.is-summable-fit.result) c.loop-i.invariant ∙ ap (λ (b : Bool). every test s i && b) c.is-summable-fit.ensures ∙ every_more test s i
+    ap (λ (b : Bool). b && c.is_summable-fit.result) c.loop-i.invariant ∙ ap (λ (b : Bool). every test s i && b) c.is_summable-fit.ensures ∙ every_more test s i
 
 pub returns : goal.returns
 returns c =

@@ -14,7 +14,7 @@ loop-i-preserved c =
     let i = c.loop-i.i in
     let own = may_share c.args.traders in
     let served = is_served c.args.segments in (
-      ap (λ (b : Bool). b && c.may-share-may-share.result) c.loop-i.invariant.0 ∙ ap (λ (b : Bool). every own s i && b) c.may-share-may-share.ensures ∙ every_more own s i,
+      ap (λ (b : Bool). b && c.may_share-may_share.result) c.loop-i.invariant.0 ∙ ap (λ (b : Bool). every own s i && b) c.may_share-may_share.ensures ∙ every_more own s i,
       ap (λ (b : Bool). b && is_free (row_at s i)) c.loop-i.invariant.1 ∙ every_more is_free s i,
       ap (λ (b : Bool). b && served (row_at s i)) c.loop-i.invariant.2 ∙ every_more served s i,
     )

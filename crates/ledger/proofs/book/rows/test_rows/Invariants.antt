@@ -4,6 +4,6 @@ use Rattle.ledger.proofs.book.rows.test_rows.Given as goal
 
 abbrev pub invariant-loop-i : goal.invariant-loop-i
 invariant-loop-i l =
-    (l.may-share ≡ every (may_share l.traders) l.sheet l.i)
+    (l.may_share ≡ every (may_share l.traders) l.sheet l.i)
     × (l.free ≡ every is_free l.sheet l.i)
     × (l.served ≡ every (is_served l.segments) l.sheet l.i)

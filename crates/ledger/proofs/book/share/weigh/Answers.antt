@@ -12,8 +12,8 @@ loop-i-preserved c =
     let us = c.loop-i.uses in
     let in-sheet : i < length s = let a = c.requires.rows in omega arith in
     let in-uses : i < length us = let a = c.requires.room in omega arith in
-    let v = c.profile-use-own.ensures.value in
-    let b = c.profile-use-own.ensures.bound in
+    let v = c.profile_use-own.ensures.value in
+    let b = c.profile_use-own.ensures.bound in
     let m = weigh_sum f s i in-sheet in
     let t = c.loop-i.invariant.1 in
     let k = c.loop-i.invariant.3 in (

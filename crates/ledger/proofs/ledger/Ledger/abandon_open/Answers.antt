@@ -4,5 +4,5 @@ use Rattle.ledger.proofs.ledger.Ledger.abandon_open.Goals as goal
 
 pub returns : goal.returns
 returns c =
-    let e = c.abandon-open.ensures in
+    let e = c.abandon_open.ensures in
     record { answer = e.answer; state = e.state; run = λ s h p. next p (record { answer = e.answer; state = e.state; rows = refl }) }

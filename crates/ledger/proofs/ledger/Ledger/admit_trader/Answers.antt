@@ -4,5 +4,5 @@ use Rattle.ledger.proofs.ledger.Ledger.admit_trader.Goals as goal
 
 pub returns : goal.returns
 returns c =
-    let e = c.admit-trader.ensures in
+    let e = c.admit_trader.ensures in
     record { answer = e.answer; state = e.state; run = λ s h p. next p (record { answer = e.answer; state = e.state; rows = refl }) }

@@ -6,7 +6,7 @@ returns c =
     let e = c.hand_over.ensures in
     record { answer = e.answer; state = e.state; rows = e.rows; run = λ h p. next p (record { answer = e.answer; state = e.state; rows = e.rows }) }
 
-pub invariant-of-self : goal.invariant-of-self
-invariant-of-self c =
+pub invariant_of-self : goal.invariant_of-self
+invariant_of-self c =
     let e = c.hand_over.ensures.sound in
     (e.places, (e.traders, (e.points, (e.metered, (e.day, (e.opened, (e.shared, (e.readings, (e.bookings, (e.losses, ((λ t. (e.accounts t).high), ((λ t. (e.accounts t).low), (e.corrections.high, (e.corrections.low, tt))))))))))))))

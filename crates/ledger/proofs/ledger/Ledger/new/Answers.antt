@@ -6,4 +6,4 @@ use Rattle.ledger.proofs.ledger.Ledger.new.Goals as goal
 pub returns : goal.returns
 returns c =
     let e = c.new.ensures in
-    record { state = e.state; run = λ s. subst (λ (b : Book). Leads [] b s) (sym e.state) (start c.args.first-day s) }
+    record { state = e.state; run = λ s. subst (λ (b : Book). Leads [] b s) (sym e.state) (start c.args.first_day s) }

@@ -3,7 +3,7 @@ use Rattle.ledger.proofs.ledger.Ledger.share_out.Goals as goal
 
 pub returns : goal.returns
 returns g c =
-    let e = c.share-out.ensures in
+    let e = c.share_out.ensures in
     let profile = g.met.P.Profile in
     let rule = g.met.R.ShareRule in
     record {

@@ -4,5 +4,5 @@ use Rattle.ledger.proofs.ledger.Ledger.take_inflow.Goals as goal
 
 pub returns : goal.returns
 returns c =
-    let e = c.take-inflow.ensures in
+    let e = c.take_inflow.ensures in
     record { answer = e.answer; state = e.state; run = λ s h p. next p (record { answer = e.answer; state = e.state; rows = refl }) }

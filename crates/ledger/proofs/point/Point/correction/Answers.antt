@@ -6,6 +6,6 @@ use Rattle.ledger.proofs.point.Point.correction.Goals as goal
 pub returns : goal.returns
 returns c =
     let r = ranged c.args.self.now c.requires in
-    let v = c.kept-use.ensures.value in
-    let b = c.kept-use.ensures.bound in
+    let v = c.kept_use.ensures.value in
+    let b = c.kept_use.ensures.bound in
     omega (arith, ints)

@@ -6,5 +6,5 @@ use Rattle.player.proofs.report.Report.field.Goals as goal
 pub returns : goal.returns
 returns c =
     both c.number.result c.args.self.now c.text.new.self _ (separator c.args.self.now.csv ∷ c.args.name.now) (λ csv. separator csv ∷ decimal c.args.n)
-    (subst (λ (t : List ℕ). Adds c.args.self.now c.text.new.self (separator c.args.self.now.csv ∷ t)) c.as-bytes.ensures.value c.in-ok-text.ensures)
+    (subst (λ (t : List ℕ). Adds c.args.self.now c.text.new.self (separator c.args.self.now.csv ∷ t)) c.as_bytes.ensures.value c.in_ok-text.ensures)
     c.number.ensures

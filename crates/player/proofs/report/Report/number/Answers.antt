@@ -5,5 +5,5 @@ use Rattle.player.proofs.report.Report.number.Goals as goal
 
 pub returns : goal.returns
 returns c =
-    both c.put-number.result c.args.self.now c.separate.new.self _ (separator c.args.self.now.csv ∷ []) (λ _. decimal c.args.n) c.in-ok-separate.ensures
-    (written c.put-number.result c.separate.new.self _ (decimal c.args.n) c.put-number.ensures refl)
+    both c.put_number.result c.args.self.now c.separate.new.self _ (separator c.args.self.now.csv ∷ []) (λ _. decimal c.args.n) c.in_ok-separate.ensures
+    (written c.put_number.result c.separate.new.self _ (decimal c.args.n) c.put_number.ensures refl)

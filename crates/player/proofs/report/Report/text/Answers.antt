@@ -5,5 +5,5 @@ use Rattle.player.proofs.report.Report.text.Goals as goal
 
 pub returns : goal.returns
 returns c =
-    both c.extend-from-slice.result c.args.self.now c.separate.new.self _ (separator c.args.self.now.csv ∷ []) (λ _. c.args.text.now) c.in-ok-separate.ensures
-    (grown c.extend-from-slice.result c.separate.new.self _ c.args.text.now c.extend-from-slice.ensures.items refl)
+    both c.extend_from_slice.result c.args.self.now c.separate.new.self _ (separator c.args.self.now.csv ∷ []) (λ _. c.args.text.now) c.in_ok-separate.ensures
+    (grown c.extend_from_slice.result c.separate.new.self _ c.args.text.now c.extend_from_slice.ensures.items refl)

@@ -7,8 +7,8 @@ use Rattle.player.specs.Running.{tied, open_day, entry_told}
 use Rattle.player.proofs.Ties.{kept, told}
 use Rattle.player.proofs.station.Station.enter.Goals as goal
 
-pub invariant-of-self : goal.invariant-of-self
-invariant-of-self c =
+pub invariant_of-self : goal.invariant_of-self
+invariant_of-self c =
     let l = c.args.self.now.ledger.book in
     (kept (enter_fault l c.in-Open.day c.args.trader c.args.litres) _ l c.enter.new.self.book c.args.self.now.running c.enter.ensures.state refl c.args.self.now.tied, tt)
 

@@ -3,5 +3,5 @@ use Rattle.std.proofs.lemmas.List.{length-replicate}
 use Rattle.profiles.proofs.Limits.{replicate_within}
 use Rattle.profiles.proofs.sheet.Sheet.filled.Goals as goal
 
-pub invariant-of-result : goal.invariant-of-result
-invariant-of-result g c = (length-replicate {A = ℕ} g.row.CELLS c.args.number, (λ k. replicate_within g.row.CELLS c.args.number g.row.LIMIT k c.requires, tt))
+pub invariant_of-result : goal.invariant_of-result
+invariant_of-result g c = (length-replicate {A = ℕ} g.row.CELLS c.args.number, (λ k. replicate_within g.row.CELLS c.args.number g.row.LIMIT k c.requires, tt))
