@@ -9,4 +9,19 @@ returns c =
 pub invariant_of-self : goal.invariant_of-self
 invariant_of-self c =
     let e = c.hand_over.ensures.sound in
-    (e.places, (e.traders, (e.points, (e.metered, (e.day, (e.opened, (e.shared, (e.readings, (e.bookings, (e.losses, ((λ t. (e.accounts t).high), ((λ t. (e.accounts t).low), (e.corrections.high, (e.corrections.low, tt))))))))))))))
+    record {
+      places = e.places;
+      traders = e.traders;
+      points = e.points;
+      metered = e.metered;
+      day = e.day;
+      opened = e.opened;
+      shared = e.shared;
+      readings = e.readings;
+      bookings = e.bookings;
+      losses = e.losses;
+      high = λ t. (e.accounts t).high;
+      low = λ t. (e.accounts t).low;
+      most = e.corrections.high;
+      least = e.corrections.low;
+    }

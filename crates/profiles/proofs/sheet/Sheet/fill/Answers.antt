@@ -17,7 +17,10 @@ returns-then-x g c = record { taken = too_large g.row.LIMIT c.args.sheet.now g.r
 pub invariant_of-self : goal.invariant_of-self
 invariant_of-self g c =
     let none = all_taken g.row.LIMIT c.args.sheet.now c.loop-i.i c.loop-i-test.false c.loop-i.invariant.0 in
-    (c.loop-i.invariant.1, (λ k. subst (λ l. get_or l k 0 ≤ g.row.LIMIT) (sym (ext_get_or 0 c.loop-i.numbers c.args.sheet.now (omega arith) (λ k h. c.loop-i.invariant.2 k (omega arith)))) (within g.row.LIMIT c.args.sheet.now none k), tt))
+    record {
+      long = c.loop-i.invariant.1;
+      low = λ k. subst (λ l. get_or l k 0 ≤ g.row.LIMIT) (sym (ext_get_or 0 c.loop-i.numbers c.args.sheet.now (omega arith) (λ k h. c.loop-i.invariant.2 k (omega arith)))) (within g.row.LIMIT c.args.sheet.now none k);
+    }
 
 pub returns : goal.returns
 returns g c =

@@ -4,4 +4,7 @@ use Rattle.profiles.proofs.Limits.{replicate_within}
 use Rattle.profiles.proofs.sheet.Sheet.filled.Goals as goal
 
 pub invariant_of-result : goal.invariant_of-result
-invariant_of-result g c = (length-replicate {A = ℕ} g.row.CELLS c.args.number, (λ k. replicate_within g.row.CELLS c.args.number g.row.LIMIT k c.requires, tt))
+invariant_of-result g c = record {
+  long = length-replicate {A = ℕ} g.row.CELLS c.args.number;
+  low = λ k. replicate_within g.row.CELLS c.args.number g.row.LIMIT k c.requires;
+}
