@@ -10,7 +10,7 @@ use Rattle.player.proofs.station.Station.enter.Goals as goal
 pub invariant_of-self : goal.invariant_of-self
 invariant_of-self c =
     let l = c.args.self.now.ledger.book in
-    (kept (enter_fault l c.in-Open.day c.args.trader c.args.litres) _ l c.enter.new.self.book c.args.self.now.running c.enter.ensures.state refl c.args.self.now.tied, tt)
+    record { tied = kept (enter_fault l c.in-Open.day c.args.trader c.args.litres) _ l c.enter.new.self.book c.args.self.now.running c.enter.ensures.state refl c.args.self.now.tied }
 
 pub returns-in-Err : goal.returns-in-Err
 returns-in-Err c =

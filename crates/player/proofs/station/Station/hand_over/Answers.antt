@@ -6,4 +6,4 @@ use Rattle.player.proofs.station.Station.hand_over.Goals as goal
 pub invariant_of-self : goal.invariant_of-self
 invariant_of-self c =
     let l = c.args.self.now.ledger.book in
-    (kept (hand_fault l c.args.sheet.now c.args.slip c.args.trader) _ l c.hand_over.new.self.book c.args.self.now.running c.hand_over.ensures.state refl c.args.self.now.tied, tt)
+    record { tied = kept (hand_fault l c.args.sheet.now c.args.slip c.args.trader) _ l c.hand_over.new.self.book c.args.self.now.running c.hand_over.ensures.state refl c.args.self.now.tied }

@@ -9,8 +9,8 @@ use Rattle.player.proofs.station.Station.open.Goals as goal
 
 pub invariant_of-result-in-Err : goal.invariant_of-result-in-Err
 invariant_of-result-in-Err c =
-    let l = c.args.self.ledger.book in (
-      stays (open_fault l (to_z w16 (of_z w16 c.args.temperature)) c.args.season) _ c.in-Err.why _ l c.open.new.self.book Idle c.in-Err.ensures.answer c.in-Err.ensures.state
-          (subst (λ (d : Running). tied l.phase d ≡ true) c.in-Idle.is c.args.self.tied),
-      tt,
-    )
+    let l = c.args.self.ledger.book in
+    record {
+      tied = stays (open_fault l (to_z w16 (of_z w16 c.args.temperature)) c.args.season) _ c.in-Err.why _ l c.open.new.self.book Idle c.in-Err.ensures.answer c.in-Err.ensures.state
+          (subst (λ (d : Running). tied l.phase d ≡ true) c.in-Idle.is c.args.self.tied);
+    }
