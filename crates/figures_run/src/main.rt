@@ -20,6 +20,7 @@ use refused::refused;
 use shares::{LargestRemainder, Running};
 use sheet::numbers_of;
 use std::io::Write;
+use std::process::ExitCode;
 use std::{env, fs};
 use tells::{layer_lines, table_lines};
 
@@ -53,12 +54,12 @@ fn run(rt: &HostRuntime) -> anyhow::Result<()> {
     Ok(())
 }
 
-fn main(rt: HostRuntime) -> anyhow::Result<()> {
+fn main(rt: HostRuntime) -> ExitCode {
     match run(&rt) {
-        Ok(()) => Ok(()),
+        Ok(()) => ExitCode::SUCCESS,
         Err(why) => {
-            eprintln!(rt; "{why}")?;
-            Err(why)
+            let _told = eprintln!(rt; "{why}");
+            ExitCode::FAILURE
         }
     }
 }

@@ -27,7 +27,8 @@ impl Page {
     }
 
     pub(crate) fn number<N: fmt::Display + Drop>(&mut self, n: N) -> fmt::Result {
-        write!(self.text, " {n}")
+        write!(self.text, " {n}")?;
+        Ok(())
     }
 
     pub(crate) fn numbers(&mut self, ns: &[u64]) -> fmt::Result {

@@ -22,7 +22,7 @@ accounts and the balance. --csv prints the same with commas.
     abandon
     read POINT READING                                  opens the point's slip, until one of the next three
     book POINT
-    hand_over POINT TRADER                              books, and the point is then TRADER's
+    hand-over POINT TRADER                              books, and the point is then TRADER's
     withdraw POINT
     quantity TRADER
     # a comment

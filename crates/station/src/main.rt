@@ -10,6 +10,8 @@ use help::{HELP, MAKE_ONE};
 use session::{Played, play};
 use std::alloc::Global;
 use std::io::{ErrorKind, Read, Write};
+use std::mem::ManuallyDrop;
+use std::process::{ExitCode, Termination};
 use std::{env, fs};
 
 // How much of a malformed line is shown.
@@ -130,15 +132,18 @@ fn run(rt: &HostRuntime) -> Result<bool, Stop> {
     }
 }
 
-fn main(rt: HostRuntime) -> Result<(), Stop> {
+fn main(rt: HostRuntime) -> ExitCode {
     match run(&rt) {
-        Ok(true) => Ok(()),
-        Ok(false) => Err(Stop::Error("stopped".into())),
+        Ok(true) => ExitCode::SUCCESS,
+        Ok(false) => ExitCode::FAILURE,
         Err(Stop::Error(e)) => {
             let told: anyhow::Result<()> = Err(e);
-            told?;
-            Ok(())
+            told.report(&rt)
         }
-        Err(Stop::Unended(slips)) => Err(Stop::Unended(slips)),
+        Err(Stop::Unended(slips)) => {
+            // The process ends here, and the slips' ledger with it.
+            let _kept = unsafe { ManuallyDrop::new_unchecked(slips) };
+            ExitCode::FAILURE
+        }
     }
 }
