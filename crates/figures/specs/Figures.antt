@@ -1,5 +1,5 @@
 -- Figures worked out by hand, and what the definitions give: one table for every crate.
-use Rattle.std.specs.Prelude.{◌≡◌, ℕ, List, [], ◌∷◌, negsuc, Ok}
+use Rattle.std.specs.Prelude.{◌≡◌, ℕ, [], ◌∷◌, negsuc, Ok}
 use Rattle.shares.specs.Fair.{guarded}
 use Rattle.shares.specs.Rules.{running, largest}
 use Rattle.profiles.specs.Layers.{scaled}
@@ -7,7 +7,6 @@ use Rattle.ledger.specs.Days.{loss_of, quantity_of}
 use Rattle.ledger.specs.Rows.{profile_use}
 use Rattle.ledger.specs.Readings.{used, correction_of, new_scale}
 use Rattle.charges.specs.Rule.{nomination_due, balance_due, offered_due}
-use Rattle.calendar.specs.declared.date.Date.{Date}
 use Rattle.calendar.specs.Days.{day_of}
 
 pub record Figures : Type 0 where

@@ -1,5 +1,5 @@
 -- The fixed words of the journal, and what each stands for.
-use Rattle.std.specs.Prelude.{ℕ, Bool, true, false, cond, List, [], ◌∷◌, Some, None, codes, Option}
+use Rattle.std.specs.Prelude.{ℕ, cond, List, [], ◌∷◌, Some, None, codes, Option}
 use Rattle.std.specs.Str.{bytes_eq}
 use Rattle.journal.specs.declared.kind.Kind.{Kind}
 use Rattle.journal.specs.declared.kind.Kind.TheVariants.{Ledger, Sheet, Profile, Trader, Point, Open, Enter, Inflow, Share, Abandon, Quantity, Read, Book, HandOver, Withdraw}

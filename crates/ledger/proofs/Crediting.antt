@@ -1,11 +1,11 @@
 -- One turn of the loop that books the shares.
-use Rattle.std.proofs.Common.{◌≡◌, ℕ, ◌+◌, ◌*◌, ◌<◌, ◌≤◌, true, List, length, get_or, take, set, ℤ, pos, ◌≤ℤ◌, sum, sym, refl, ap, ◌∙◌, subst, arith}
+use Rattle.std.proofs.Common.{◌≡◌, ℕ, ◌+◌, ◌<◌, ◌≤◌, true, List, length, get_or, take, set, pos, ◌≤ℤ◌, sum, sym, ap, ◌∙◌, subst, arith}
 use Rattle.std.proofs.lemmas.List.{take-take, get_or-take}
 use Rattle.std.proofs.lemmas.Int.{ints}
 use Rattle.profiles.specs.declared.factors.Factors.{Factors}
 use Rattle.ledger.specs.declared.book.Book.{Book}
 use Rattle.ledger.specs.declared.point.Point.{Point}
-use Rattle.ledger.specs.Accounts.{Sound, Settling, account_at, metered_at, credited, credited_to, with_traders, reach}
+use Rattle.ledger.specs.Accounts.{Sound, Settling, account_at, credited, credited_to, with_traders, reach}
 use Rattle.ledger.specs.Limits.{max_litres}
 use Rattle.ledger.specs.Rows.{row_at, every, may_share, shared_row, shared_rows}
 use Rattle.ledger.proofs.Ranges.{Shareable, shareable}

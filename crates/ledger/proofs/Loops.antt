@@ -1,7 +1,7 @@
 -- What one turn of a loop does, over plain lists and numbers.
-use Rattle.std.proofs.Common.{◌≡◌, ℕ, zero, suc, ◌+◌, ◌*◌, ◌<◌, ◌≤◌, List, [], ◌∷◌, ◌++◌, map, length, get_or, take, drop, set, ℤ, pos, ◌+ℤ◌, sum, sym, refl, ap, ◌∙◌, subst, arith}
+use Rattle.std.proofs.Common.{◌≡◌, ℕ, zero, suc, ◌+◌, ◌<◌, ◌≤◌, List, [], ◌∷◌, ◌++◌, map, length, get_or, take, drop, set, pos, ◌+ℤ◌, sum, sym, refl, ap, ◌∙◌, subst, arith}
 use Rattle.std.proofs.lemmas.List.Edits.{map_over_more}
-use Rattle.std.proofs.lemmas.List.{length-append, length-map, length-take, length-drop, get_or_default, take_all, drop_all, append-nil, take_more_set, map_more, drop-set-lt, take-append-drop}
+use Rattle.std.proofs.lemmas.List.{length-append, length-map, length-take, length-drop, get_or_default, take_all, drop_all, append-nil, take_more_set, map_more, take-append-drop}
 use Rattle.std.proofs.lemmas.Int.{ints}
 use Rattle.std.proofs.lemmas.List.Sums.{sum_by_more, sum-map}
 use Rattle.profiles.specs.declared.factors.Factors.{Factors}

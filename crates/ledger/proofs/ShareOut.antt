@@ -1,8 +1,8 @@
 -- A share-out from the facts of its steps: what was asked, weighed, divided, credited and settled.
-use Rattle.std.proofs.Common.{◌≡◌, ℕ, zero, suc, ◌+◌, ◌<◌, ◌≤◌, min, Bool, true, false, cond, not, ◌&&◌, eqb, ltb, List, [], ◌∷◌, ◌++◌, map, length, get_or, take, drop, set, replicate, ℤ, pos, Some, None, Ok, Err, sum, Option, Result, sym, refl, ap, ◌∙◌, subst, arith}
+use Rattle.std.proofs.Common.{◌≡◌, ℕ, zero, suc, ◌+◌, ◌<◌, ◌≤◌, true, false, cond, ◌&&◌, eqb, ltb, List, [], ◌∷◌, ◌++◌, map, length, get_or, take, drop, set, replicate, pos, Some, None, Ok, Err, sum, Option, Result, sym, refl, ap, ◌∙◌, arith}
 use Rattle.std.specs.List.{range_with_len}
 use Rattle.std.proofs.lemmas.List.FromFn.{get_or-map-range_with_len}
-use Rattle.std.proofs.lemmas.List.{ext_get_or, length-map, length-take, length-take-le, length-replicate, get_or-map, get_or-take, get_or-replicate, get_or_append_left, take_at, take-append-le}
+use Rattle.std.proofs.lemmas.List.{ext_get_or, length-map, length-take-le, get_or-map, get_or-take, get_or_append_left, take_at}
 use Rattle.std.proofs.lemmas.Bool.{false≢true, cond-true, cond-false}
 use Rattle.std.proofs.lemmas.Bool.Decides.{nat_tests}
 use Rattle.refusals.specs.declared.Refusal.{Refusal}
@@ -18,11 +18,11 @@ use Rattle.ledger.specs.declared.day.Refused.{Refused}
 use Rattle.ledger.specs.declared.day.SharedOut.{SharedOut}
 use Rattle.ledger.specs.declared.point.Point.{Point}
 use Rattle.ledger.specs.Accounts.{Sound, credited_to, credited, settled, with_traders, day_holds, pending}
-use Rattle.ledger.specs.Days.{sky_in, is_measured}
+use Rattle.ledger.specs.Days.{is_measured}
 use Rattle.ledger.specs.Grounds.{handed_back, unless}
 use Rattle.ledger.specs.History.{LawfulRule}
 use Rattle.ledger.specs.Limits.{max_litres}
-use Rattle.ledger.specs.Rows.{row_at, no_row, every, may_share, factors_at, profile_use, profile_uses, shared_row, shared_rows}
+use Rattle.ledger.specs.Rows.{row_at, no_row, may_share, factors_at, profile_use, profile_uses, shared_row, shared_rows}
 use Rattle.ledger.specs.Sharing.{Tells, Rule, Weighable, told_on, day_quantity, day_loss, day_uses, day_shares, share_grounds, no_weight, share_fault, share_told, share_answer, shared_book, share_book, share_sheet, share_uses, share_shares, one_more_shared}
 use Rattle.ledger.proofs.Accepted.{sharable}
 use Rattle.ledger.proofs.Keep.{shares_within}

@@ -1,5 +1,5 @@
 -- The calls of a ledger but for the share-out: when each is refused, what it answers, and what there is then.
-use Rattle.std.specs.Prelude.{ℕ, ◌+◌, ◌-◌, ◌*◌, ◌/◌, Bool, true, false, cond, not, ◌||◌, List, [], ◌∷◌, map, length, ℤ, pos, Option, Result, ◌==◌, nat_le, nat_lt, slice_set}
+use Rattle.std.specs.Prelude.{ℕ, ◌+◌, ◌-◌, ◌*◌, ◌/◌, Bool, true, false, not, ◌||◌, List, [], ◌∷◌, map, length, ℤ, pos, Option, Result, ◌==◌, nat_le, nat_lt, slice_set}
 use Rattle.refusals.specs.declared.Refusal.{Refusal}
 use Rattle.refusals.specs.declared.Refusal.TheVariants.{PointSheetLength, NoSuchTrader, Weather, Litres, Particulars, ForeignSheet, NotRunning, DayRunning, NoMoreDays, TooMuchMetered, InflowTooSmall, NoPlace}
 use Rattle.profiles.specs.Asked.{within}

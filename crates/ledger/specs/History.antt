@@ -1,5 +1,5 @@
 -- The calls of a ledger's life, each with what was handed in and what was told, and the ledgers and sheets they lead to.
-use Rattle.std.specs.Prelude.{◌≡◌, ℕ, ◌<◌, ◌≤◌, true, false, List, [], ◌∷◌, length, ℤ, sum, Result, slice_index}
+use Rattle.std.specs.Prelude.{◌≡◌, ℕ, ◌<◌, true, false, List, [], ◌∷◌, length, ℤ, sum, Result, slice_index}
 use Rattle.refusals.specs.declared.Refusal.{Refusal}
 use Rattle.profiles.specs.Laws.{Small}
 use Rattle.shares.specs.Fair.{fair, zeros, Near}

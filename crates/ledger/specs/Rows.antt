@@ -1,5 +1,5 @@
 -- The rows of a point sheet: their ranges, what a point is expected to use, and what a share-out does to a row.
-use Rattle.std.specs.Prelude.{ℕ, zero, suc, ◌+◌, ◌*◌, ◌/◌, ◌^◌, Bool, true, cond, ◌&&◌, List, [], ◌∷◌, map, length, ◌==◌, nat_le, nat_lt, slice_index, slice_index_or, slice_set}
+use Rattle.std.specs.Prelude.{ℕ, zero, suc, ◌+◌, ◌*◌, ◌/◌, ◌^◌, Bool, true, cond, ◌&&◌, List, map, length, ◌==◌, nat_le, nat_lt, slice_index, slice_index_or, slice_set}
 use Rattle.profiles.specs.declared.factors.Factors.{Factors}
 use Rattle.profiles.specs.Laws.{both, whole}
 use Rattle.ledger.specs.declared.point.Point.{Point}

@@ -1,5 +1,5 @@
 -- What a test knows of a call that may be refused: the day that is handed back, and the ledger's running day.
-use Rattle.std.proofs.Common.{◌≡◌, List, IfErr, Some, None, Ok, Err, Option, Result, sym, refl, ap, ◌∙◌, subst, MatchResult}
+use Rattle.std.proofs.Common.{◌≡◌, List, IfErr, Some, None, Err, Option, Result, sym, refl, ap, ◌∙◌, subst, MatchResult}
 use Rattle.refusals.specs.declared.Refusal.{Refusal}
 use Rattle.ledger.specs.declared.book.Book.{Book}
 use Rattle.ledger.specs.declared.book.Trader.{Trader}

@@ -1,5 +1,5 @@
 -- One piece of text behind another.
-use Rattle.std.proofs.Common.{◌≡◌, ℕ, Bool, cond, List, [], ◌∷◌, ◌++◌, is_ok, IfOk, Ok, Err, vec_items, Result, sym, refl, ap, ◌∙◌, append_assoc}
+use Rattle.std.proofs.Common.{◌≡◌, ℕ, Bool, cond, List, ◌++◌, is_ok, IfOk, Ok, Err, vec_items, Result, ◌∙◌, append_assoc}
 use Rattle.player.specs.declared.report.Report.{Report}
 use Rattle.player.specs.Printed.{Adds}
 

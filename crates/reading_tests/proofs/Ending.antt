@@ -11,7 +11,7 @@ use Rattle.ledger.specs.Accounts.{with_counts}
 use Rattle.ledger.specs.Grounds.{answered, handed_back, unless}
 use Rattle.ledger.specs.Limits.{max_points}
 use Rattle.ledger.specs.Readings.{is_slip_of, one_more_reading, read_fault, read_answer, read_book, withdraw_fault}
-use Rattle.ledger.specs.Rows.{no_row, row_at}
+use Rattle.ledger.specs.Rows.{no_row}
 use Rattle.ledger.proofs.AcceptedReadings.{reads}
 use Rattle.ledger.proofs.Grounds.{by_option, by_unless}
 use Rattle.reading_tests.specs.Slips.{Endable}

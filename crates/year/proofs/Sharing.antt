@@ -1,5 +1,5 @@
 -- A day shared out keeps the ledger and its sheet in agreement with their history.
-use Rattle.std.proofs.Common.{◌≡◌, ℕ, ◌+◌, ◌<◌, ◌≤◌, min, false, List, ◌∷◌, ◌++◌, length, take, drop, ℤ, sum, sym, ap, ◌∙◌, subst, arith}
+use Rattle.std.proofs.Common.{◌≡◌, ℕ, ◌<◌, ◌≤◌, min, false, List, ◌∷◌, ◌++◌, length, take, drop, ℤ, sum, sym, ap, ◌∙◌, subst, arith}
 use Rattle.std.specs.List.{AllByRecursion as All}
 use Rattle.std.proofs.lemmas.List.{length-map, length-take, take_at}
 use Rattle.shares.specs.Fair.{max_weight}

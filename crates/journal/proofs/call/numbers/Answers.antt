@@ -1,11 +1,9 @@
-use Rattle.std.proofs.Common.{◌≡◌, ℕ, ◌<◌, ◌≤◌, Bool, cond, List, [], length, get_or, take, Ok, Err, sym, ap, ◌∙◌, arith, length-set, rules}
+use Rattle.std.proofs.Common.{◌≡◌, ◌<◌, ◌≤◌, length, get_or, take, sym, ap, ◌∙◌, arith, length-set}
 use lib.ListN.{length-replicate}
-use Rattle.journal.specs.declared.fault.Fault.TheVariants.{Form}
 use Rattle.journal.specs.Words.{texts_of}
-use Rattle.journal.specs.Numbers.{number_of, numbers_of, each_of}
+use Rattle.journal.specs.Numbers.{number_of, each_of}
 use Rattle.journal.proofs.Eachs.{each_more, each_fault, each_all, after_none, numbers_is, numbers_not, error_is}
 use Rattle.journal.proofs.Texts.{texts_at, length_texts}
-use Rattle.journal.proofs.call.numbers.Given as given
 use Rattle.journal.proofs.call.numbers.Goals as goal
 
 pub returns-then-words : goal.returns-then-words

@@ -1,4 +1,4 @@
-use Rattle.std.proofs.Common.{◌≡◌, ◌≤◌, length, take, drop}
+use Rattle.std.proofs.Common.{◌≡◌, length, take, drop}
 use Rattle.journal.specs.Words.{texts_of}
 use Rattle.journal.specs.Numbers.{each_of, after}
 use Rattle.journal.proofs.call.numbers.Given as goal

@@ -1,18 +1,13 @@
-use Rattle.std.proofs.Common.{◌≡◌, ℕ, Bool, true, false, cond, List, [], Some, None, Ok, Err, Option, Result, sym, ap, ◌∙◌, arith}
+use Rattle.std.proofs.Common.{Ok, Result, ap, ◌∙◌, arith}
 use Rattle.journal.specs.declared.fault.Fault.{Fault}
-use Rattle.journal.specs.declared.fault.Fault.TheVariants.{UnknownCall, Form, NotTemperature, NotName, NotFile, NotRule}
+use Rattle.journal.specs.declared.fault.Fault.TheVariants.{NotFile}
 use Rattle.journal.specs.declared.kind.Kind.TheVariants as of
-use Rattle.journal.specs.declared.kind.Rule.{Rule}
-use Rattle.journal.specs.declared.kind.Kind.{Kind}
-use Rattle.journal.specs.declared.kind.Shape.{Shape}
-use Rattle.journal.specs.declared.words.Class.TheVariants.{Name, File}
-use Rattle.journal.specs.Words.{texts_of}
-use Rattle.journal.specs.Vocabulary.{kind_in, shape_in, rule_in}
-use Rattle.journal.specs.Numbers.{made, number_of, word_in, tenths_of}
+use Rattle.journal.specs.declared.words.Class.TheVariants.{File}
+use Rattle.journal.specs.Numbers.{made, word_in}
 use Rattle.journal.specs.Calls as calls
 use Rattle.journal.specs.Calls.{Said, some, sized, max32}
-use Rattle.journal.proofs.Eachs.{broke_call, went_on}
-use Rattle.journal.proofs.Texts.{text_at, sized_is, sized_not, length_texts, texts_at, drop_texts}
+use Rattle.journal.proofs.Eachs.{broke_call}
+use Rattle.journal.proofs.Texts.{text_at, sized_is, sized_not}
 use Rattle.journal.proofs.call.table.Goals as goal
 
 pub returns-then-args-ne1 : goal.returns-then-args-ne1

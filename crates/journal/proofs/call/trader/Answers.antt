@@ -1,19 +1,14 @@
-use Rattle.std.proofs.Common.{◌≡◌, ℕ, ◌≤◌, Bool, true, false, cond, eqb, leb, List, [], length, get_or, drop, Some, None, Ok, Err, Option, Result, sym, ap, ◌∙◌, arith, le-leb, true-eqb, false-eqb}
-use borrow.Author.Tests.{lt-leb}
+use Rattle.std.proofs.Common.{ℕ, eqb, List, [], length, get_or, Some, None, Ok, Result, ap, ◌∙◌, arith, true-eqb, false-eqb}
 use Rattle.journal.specs.declared.fault.Fault.{Fault}
-use Rattle.journal.specs.declared.fault.Fault.TheVariants.{UnknownCall, Form, NotTemperature, NotName, NotFile, NotRule}
+use Rattle.journal.specs.declared.fault.Fault.TheVariants.{NotName}
 use Rattle.journal.specs.declared.kind.Kind.TheVariants as of
-use Rattle.journal.specs.declared.kind.Rule.{Rule}
-use Rattle.journal.specs.declared.kind.Kind.{Kind}
-use Rattle.journal.specs.declared.kind.Shape.{Shape}
-use Rattle.journal.specs.declared.words.Class.TheVariants.{Name, File}
+use Rattle.journal.specs.declared.words.Class.TheVariants.{Name}
 use Rattle.journal.specs.Words.{texts_of}
-use Rattle.journal.specs.Vocabulary.{kind_in, shape_in, rule_in}
-use Rattle.journal.specs.Numbers.{made, number_of, word_in, tenths_of}
+use Rattle.journal.specs.Numbers.{made, word_in}
 use Rattle.journal.specs.Calls as calls
 use Rattle.journal.specs.Calls.{Said, some, sized, max32}
-use Rattle.journal.proofs.Eachs.{broke_call, broke_line, went_on}
-use Rattle.journal.proofs.Texts.{text_at, sized_is, sized_not, length_texts, texts_at, drop_texts, chosen_yes, chosen_no, no_words, some_words}
+use Rattle.journal.proofs.Eachs.{broke_call}
+use Rattle.journal.proofs.Texts.{text_at, sized_is, sized_not, chosen_yes, chosen_no, no_words, some_words}
 use Rattle.journal.proofs.call.trader.Goals as goal
 
 abbrev form : (ℕ → List ℕ) → Result Said Fault

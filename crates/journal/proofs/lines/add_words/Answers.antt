@@ -1,4 +1,4 @@
-use Rattle.std.proofs.Common.{◌≡◌, ℕ, ◌+◌, ◌<◌, ◌≤◌, List, length, drop, vec_items, sym, ap, ◌∙◌, arith}
+use Rattle.std.proofs.Common.{ℕ, ◌+◌, ◌<◌, ◌≤◌, List, length, drop, vec_items, sym, ap, ◌∙◌, arith}
 use Rattle.journal.specs.Words.{texts_of}
 use Rattle.journal.specs.Numbers.{number_of, all_of, after}
 use Rattle.journal.proofs.Eachs.{all_more, all_fault, all_end}

@@ -1,4 +1,4 @@
-use Rattle.std.proofs.Common.{◌≡◌, ℕ, List, [], ◌++◌, length, vec_items, sym, refl, ap, ◌∙◌, true-eqb}
+use Rattle.std.proofs.Common.{ℕ, List, ◌++◌, vec_items, sym, ap, ◌∙◌, true-eqb}
 use Rattle.journal.specs.Words.{line_of, behind_line, uncommented_of, words_of, words_in}
 use Rattle.journal.specs.Numbers.{all_of, after}
 use Rattle.journal.proofs.Cuts.{words_line}

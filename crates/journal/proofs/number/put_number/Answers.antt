@@ -1,5 +1,5 @@
-use Rattle.std.proofs.Common.{◌≡◌, ℕ, ◌-◌, ◌/◌, ◌^◌, ◌<◌, List, [], length, decimal, sym, refl, ap, ◌∙◌, append-nil, arith, length-set}
-use Rattle.journal.proofs.Decimals.{Spelled, room, more, last, extended}
+use Rattle.std.proofs.Common.{decimal, refl, ◌∙◌, append-nil, arith, length-set}
+use Rattle.journal.proofs.Decimals.{room, more, last, extended}
 use Rattle.journal.proofs.number.put_number.Goals as goal
 
 pub loop-left-init : goal.loop-left-init

@@ -1,4 +1,4 @@
-use Rattle.std.proofs.Common.{◌≡◌, ℕ, ◌<◌, List, [], ◌∷◌, ◌++◌, map, length, vec_items, sym, ap, ◌∙◌, subst, arith, true-eqb, false-eqb}
+use Rattle.std.proofs.Common.{ℕ, ◌<◌, List, length, vec_items, sym, ap, ◌∙◌, subst, arith, true-eqb, false-eqb}
 use Rattle.journal.specs.Words.{texts_of}
 use Rattle.journal.proofs.Cuts.{Sofar, sofar_start, sofar_more, sofar_end, cut_shorter, texts_push}
 use Rattle.journal.proofs.words.split.Goals as goal

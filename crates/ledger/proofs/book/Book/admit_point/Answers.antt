@@ -1,6 +1,5 @@
-use Rattle.std.proofs.Common.{◌≡◌, ◌<◌, set, None, Option, sym, refl, ap, ◌∙◌, subst, arith}
+use Rattle.std.proofs.Common.{◌≡◌, set, None, Option, sym, ap, ◌∙◌, subst}
 use Rattle.refusals.specs.declared.Refusal.{Refusal}
-use Rattle.ledger.specs.declared.book.Book.{Book}
 use Rattle.ledger.specs.Accounts.{Sound, with_counts}
 use Rattle.ledger.specs.Days.{point_fault, one_more_point}
 use Rattle.ledger.specs.Grounds.{answered, unless}

@@ -1,10 +1,9 @@
-use Rattle.std.proofs.Common.{◌≡◌, set, ℤ, ◌+ℤ◌, ◌-ℤ◌, sym, refl, ap, ◌∙◌, subst, arith, w64, SFits, to_z, of_z, rules}
+use Rattle.std.proofs.Common.{◌≡◌, set, ℤ, ◌+ℤ◌, ◌-ℤ◌, sym, ap, ◌∙◌, subst, arith, w64, SFits, to_z, of_z, rules}
 use Rattle.std.proofs.lemmas.Int.{to_z-of_z}
 use Rattle.std.proofs.lemmas.Bool.{and_parts}
 use Rattle.ledger.specs.declared.book.Book.{Book}
-use Rattle.ledger.specs.declared.book.Trader.{Trader}
-use Rattle.ledger.specs.Accounts.{Near, account_at, metered_at, credited}
-use Rattle.ledger.specs.Readings.{row_correction, booked_book, one_more_booking}
+use Rattle.ledger.specs.Accounts.{Near, account_at, metered_at}
+use Rattle.ledger.specs.Readings.{row_correction, one_more_booking}
 use Rattle.ledger.proofs.Corrections.{correction_near}
 use Rattle.ledger.proofs.Traders.{near_more}
 use Rattle.ledger.proofs.book.Book.book_row.Goals as goal

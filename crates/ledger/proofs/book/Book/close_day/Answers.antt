@@ -1,4 +1,4 @@
-use Rattle.std.proofs.Common.{◌≡◌, length, arith}
+use Rattle.std.proofs.Common.{arith}
 use Rattle.ledger.specs.History.{LawfulRule}
 use Rattle.ledger.specs.Rows.{factors_at}
 use Rattle.ledger.proofs.Crediting.{settling}

@@ -1,4 +1,4 @@
-use Rattle.std.proofs.Common.{◌≡◌, ℕ, ◌<◌, ◌≤◌, sym, refl, ap, ◌∙◌, subst, arith}
+use Rattle.std.proofs.Common.{◌≡◌, ℕ, ap, ◌∙◌, arith}
 use Rattle.ledger.specs.Accounts.{with_traders, credited_to}
 use Rattle.ledger.specs.Rows.{factors_at, shared_rows}
 use Rattle.ledger.proofs.Crediting.{turn, credit_step, row_step}

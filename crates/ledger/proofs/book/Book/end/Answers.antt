@@ -1,4 +1,4 @@
-use Rattle.std.proofs.Common.{◌≡◌, sym, ap, subst}
+use Rattle.std.proofs.Common.{sym, ap, subst}
 use Rattle.ledger.specs.declared.book.Book.{Book}
 use Rattle.ledger.specs.declared.day.Phase.TheVariants.{Idle}
 use Rattle.ledger.specs.Accounts.{Sound, with_phase}

@@ -1,4 +1,4 @@
-use Rattle.std.proofs.Common.{◌≡◌, set, ℤ, None, Ok, Option, sym, refl, ap, ◌∙◌, subst, w64, SFits, rules}
+use Rattle.std.proofs.Common.{◌≡◌, set, ℤ, None, Ok, Option, sym, ap, ◌∙◌, subst, w64, SFits, rules}
 use Rattle.std.proofs.lemmas.Int.{to_z-of_z}
 use Rattle.std.proofs.lemmas.Bool.{and_from, lt-ltb}
 use Rattle.refusals.specs.declared.Refusal.{Refusal}

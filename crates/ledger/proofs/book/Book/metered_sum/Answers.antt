@@ -1,8 +1,8 @@
-use Rattle.std.proofs.Common.{◌≡◌, ◌+◌, ◌<◌, ◌≤◌, length, take, sym, refl, ap, ◌∙◌, arith}
+use Rattle.std.proofs.Common.{◌≡◌, ◌+◌, ap, ◌∙◌, arith}
 use Rattle.std.proofs.lemmas.List.{take_all}
 use Rattle.std.proofs.lemmas.List.Sums.{sum_by-take-le}
 use Rattle.ledger.specs.declared.book.Trader.{Trader}
-use Rattle.ledger.specs.Accounts.{metered_at, metered_sum}
+use Rattle.ledger.specs.Accounts.{metered_sum}
 use Rattle.ledger.proofs.Loops.{metered_step}
 use Rattle.ledger.proofs.book.Book.metered_sum.Goals as goal
 

@@ -1,6 +1,5 @@
 use Rattle.std.proofs.Common.{◌≡◌, ◌+◌, set, None, Option, sym, ap, ◌∙◌, subst}
 use Rattle.refusals.specs.declared.Refusal.{Refusal}
-use Rattle.ledger.specs.declared.slip.Slip.{Slip}
 use Rattle.ledger.specs.Accounts.{Sound, with_counts}
 use Rattle.ledger.specs.Grounds.{answered, unless}
 use Rattle.ledger.specs.Readings.{read_fault, one_more_reading, slipped}

@@ -1,11 +1,10 @@
-use Rattle.std.proofs.Common.{◌≡◌, ℕ, ◌<◌, ◌≤◌, Bool, false, ◌&&◌, eqb, ltb, length, sym, refl, ap, ◌∙◌, subst, ⊎_elim, arith}
+use Rattle.std.proofs.Common.{◌≡◌, false, ◌&&◌, eqb, ltb, length, sym, ◌∙◌, subst, ⊎_elim}
 use Rattle.std.proofs.lemmas.Bool.{and_right, and_left, le-ltb, ne_eqb}
 use Rattle.ledger.specs.Accounts.{Sound}
 use Rattle.ledger.specs.History.{LawfulRule}
 use Rattle.ledger.specs.Sharing.{Weighable}
 use Rattle.ledger.proofs.Keep.{share_sound}
 use Rattle.ledger.proofs.ShareOut.{passed, passed_room, passed_running, weightless, shared_out}
-use Rattle.ledger.proofs.book.Book.share_out.Given as given
 use Rattle.ledger.proofs.book.Book.share_out.Goals as goal
 
 pub weigh_day-total-requires : goal.weigh_day-total-requires

@@ -1,4 +1,4 @@
-use Rattle.std.proofs.Common.{◌≡◌, ℕ, ◌++◌, map, length, drop, sum, ap, ◌∙◌, arith}
+use Rattle.std.proofs.Common.{ℕ, ◌++◌, map, length, drop, sum, ap, ◌∙◌, arith}
 use Rattle.std.specs.List.{range_with_len}
 use Rattle.ledger.specs.declared.day.Weather.{Weather}
 use Rattle.ledger.proofs.ShareOut.{segment_small, weighed_is}

@@ -1,5 +1,5 @@
-use Rattle.std.proofs.Common.{◌≡◌, ℕ, Bool, ◌&&◌, sym, refl, ap, ◌∙◌, arith}
-use Rattle.ledger.specs.Rows.{every, summable, row_at}
+use Rattle.std.proofs.Common.{◌≡◌, ℕ, Bool, ◌&&◌, ap, ◌∙◌, arith}
+use Rattle.ledger.specs.Rows.{every, summable}
 use Rattle.ledger.proofs.Rows.{every_none, every_more}
 use Rattle.ledger.proofs.book.rows.his_rows_fit.Goals as goal
 

@@ -1,4 +1,4 @@
-use Rattle.std.proofs.Common.{◌≡◌, ℕ, sym, refl, ap, ◌∙◌, arith}
+use Rattle.std.proofs.Common.{◌≡◌, ℕ, ap, ◌∙◌, arith}
 use Rattle.ledger.specs.Rows.{open_sums, summable, row_at}
 use Rattle.ledger.proofs.Rows.{every_at, open_sums_none, open_sums_more}
 use Rattle.ledger.proofs.Ranges.{open_sum_small}

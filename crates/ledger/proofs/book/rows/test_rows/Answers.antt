@@ -1,4 +1,4 @@
-use Rattle.std.proofs.Common.{◌≡◌, ℕ, Bool, ◌&&◌, sym, refl, ap, ◌∙◌, arith}
+use Rattle.std.proofs.Common.{◌≡◌, ℕ, Bool, ◌&&◌, ap, ◌∙◌, arith}
 use Rattle.ledger.specs.Rows.{every, may_share, is_free, is_served, row_at}
 use Rattle.ledger.proofs.Rows.{every_none, every_more}
 use Rattle.ledger.proofs.book.rows.test_rows.Goals as goal

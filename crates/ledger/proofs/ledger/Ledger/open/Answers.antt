@@ -1,4 +1,4 @@
-use Rattle.std.proofs.Common.{◌≡◌, refl, arith, w16, SFits, rules}
+use Rattle.std.proofs.Common.{◌≡◌, refl, w16, SFits}
 use Rattle.std.proofs.lemmas.Int.{to_z-of_z}
 use Rattle.ledger.specs.Days.{open_answer, open_book}
 use Rattle.ledger.specs.History.{next}

@@ -1,6 +1,6 @@
-use Rattle.std.proofs.Common.{ℕ, Bool, List, [], ◌∷◌, ◌++◌, codes, decimal, refl, subst}
-use Rattle.player.specs.Printed.{Adds, separator, field_of}
-use Rattle.player.proofs.Adding.{both, grown, written}
+use Rattle.std.proofs.Common.{ℕ, List, ◌∷◌, decimal, subst}
+use Rattle.player.specs.Printed.{Adds, separator}
+use Rattle.player.proofs.Adding.{both}
 use Rattle.player.proofs.report.Report.field.Goals as goal
 
 pub returns : goal.returns

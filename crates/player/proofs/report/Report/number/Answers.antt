@@ -1,6 +1,6 @@
-use Rattle.std.proofs.Common.{Bool, [], ◌∷◌, ◌++◌, codes, decimal, refl}
-use Rattle.player.specs.Printed.{separator, field_of}
-use Rattle.player.proofs.Adding.{both, grown, written}
+use Rattle.std.proofs.Common.{[], ◌∷◌, decimal, refl}
+use Rattle.player.specs.Printed.{separator}
+use Rattle.player.proofs.Adding.{both, written}
 use Rattle.player.proofs.report.Report.number.Goals as goal
 
 pub returns : goal.returns

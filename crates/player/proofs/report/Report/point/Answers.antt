@@ -1,7 +1,7 @@
 use Rattle.std.proofs.Common.{ℕ, Bool, List, [], ◌∷◌, ◌++◌, codes, decimal, refl}
 use Rattle.player.specs.declared.report.Report.{Report}
-use Rattle.player.specs.Printed.{separator, field_of}
-use Rattle.player.proofs.Adding.{both, grown, written}
+use Rattle.player.specs.Printed.{field_of}
+use Rattle.player.proofs.Adding.{both}
 use Rattle.player.proofs.report.Report.point.Goals as goal
 
 -- the report once the line's number is written

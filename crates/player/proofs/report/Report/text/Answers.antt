@@ -1,6 +1,6 @@
-use Rattle.std.proofs.Common.{Bool, [], ◌∷◌, ◌++◌, codes, decimal, refl}
-use Rattle.player.specs.Printed.{separator, field_of}
-use Rattle.player.proofs.Adding.{both, grown, written}
+use Rattle.std.proofs.Common.{[], ◌∷◌, refl}
+use Rattle.player.specs.Printed.{separator}
+use Rattle.player.proofs.Adding.{both, grown}
 use Rattle.player.proofs.report.Report.text.Goals as goal
 
 pub returns : goal.returns

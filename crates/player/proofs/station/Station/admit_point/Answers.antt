@@ -1,10 +1,6 @@
-use Rattle.std.proofs.Common.{◌≡◌, true, refl, subst}
-use Rattle.ledger.specs.Days.{open_fault, enter_fault, inflow_fault, point_fault}
-use Rattle.ledger.specs.Sharing.{share_fault}
-use Rattle.player.specs.declared.station.Running.{Running}
-use Rattle.player.specs.declared.station.Running.TheVariants.{Idle, Open, Measured}
-use Rattle.player.specs.Running.{tied}
-use Rattle.player.proofs.Ties.{kept, stays, handed, went}
+use Rattle.std.proofs.Common.{refl}
+use Rattle.ledger.specs.Days.{point_fault}
+use Rattle.player.proofs.Ties.{kept}
 use Rattle.player.proofs.station.Station.admit_point.Goals as goal
 
 pub invariant_of-self : goal.invariant_of-self

@@ -1,9 +1,7 @@
-use Rattle.std.proofs.Common.{◌≡◌, true, sym, refl, ap, ◌∙◌, subst}
+use Rattle.std.proofs.Common.{sym, refl, ap, ◌∙◌}
 use Rattle.ledger.specs.Days.{enter_fault, enter_book}
-use Rattle.ledger.specs.Sharing.{share_fault}
 use Rattle.player.specs.declared.station.Running.{Running}
-use Rattle.player.specs.declared.station.Running.TheVariants.{Idle, Open, Measured}
-use Rattle.player.specs.Running.{tied, open_day, entry_told}
+use Rattle.player.specs.Running.{open_day, entry_told}
 use Rattle.player.proofs.Ties.{kept, told}
 use Rattle.player.proofs.station.Station.enter.Goals as goal
 

@@ -1,10 +1,8 @@
 use Rattle.std.proofs.Common.{◌≡◌, true, refl, subst}
-use Rattle.ledger.specs.Days.{open_fault, enter_fault, inflow_fault, point_fault}
-use Rattle.ledger.specs.Sharing.{share_fault}
 use Rattle.player.specs.declared.station.Running.{Running}
-use Rattle.player.specs.declared.station.Running.TheVariants.{Idle, Open, Measured}
+use Rattle.player.specs.declared.station.Running.TheVariants.{Idle, Measured}
 use Rattle.player.specs.Running.{tied}
-use Rattle.player.proofs.Ties.{kept, stays, handed, went}
+use Rattle.player.proofs.Ties.{handed, went}
 use Rattle.player.proofs.station.Station.share.Goals as goal
 
 pub invariant_of-result : goal.invariant_of-result

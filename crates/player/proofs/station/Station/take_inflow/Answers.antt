@@ -1,10 +1,9 @@
-use Rattle.std.proofs.Common.{◌≡◌, true, refl, subst}
-use Rattle.ledger.specs.Days.{open_fault, enter_fault, inflow_fault, point_fault}
-use Rattle.ledger.specs.Sharing.{share_fault}
+use Rattle.std.proofs.Common.{◌≡◌, true, subst}
+use Rattle.ledger.specs.Days.{inflow_fault}
 use Rattle.player.specs.declared.station.Running.{Running}
-use Rattle.player.specs.declared.station.Running.TheVariants.{Idle, Open, Measured}
+use Rattle.player.specs.declared.station.Running.TheVariants.{Open}
 use Rattle.player.specs.Running.{tied}
-use Rattle.player.proofs.Ties.{kept, stays, handed, went}
+use Rattle.player.proofs.Ties.{handed}
 use Rattle.player.proofs.station.Station.take_inflow.Goals as goal
 
 pub invariant_of-result-in-Err : goal.invariant_of-result-in-Err
