@@ -1,7 +1,7 @@
 -- The number that digits write, digit by digit.
 use Rattle.std.proofs.Common.{◌≡◌, ℕ, ◌+◌, ◌-◌, ◌*◌, ◌<◌, ◌≤◌, Bool, true, false, ◌&&◌, List, [], ◌∷◌, ◌++◌, length, get_or, take, drop, sym, refl, ap, ◌∙◌, arith, take-append-drop}
 use Rattle.std.specs.Str.Parse.{digits_value, digits_value_after}
-use Rattle.std.specs.Char.{digit_value as digitValue, is_ascii_digit}
+use Rattle.std.specs.Char.{digit_value, is_ascii_digit}
 use Rattle.std.specs.Str.{all_ascii_digits}
 use Rattle.std.proofs.lemmas.Bool.Decides.{nat_tests}
 use Rattle.std.proofs.lemmas.Int.Digits.{digits_value_more}
@@ -12,8 +12,8 @@ use Rattle.std.proofs.lemmas.Str.Parse.{IsNumeralModel, numerals_by_value, tells
 pub own : IsNumeralModel (λ ds. all_ascii_digits ds ≡ true) (digits_value 10)
 own = numerals_by_value _ tells_all_ascii_digits
 
-pub digit_value : (c : ℕ) → 48 ≤ c → c ≤ 57 → digitValue c ≡ c - 48
-digit_value c low high = grind (arith, nat_tests)
+pub digit_value_lem : (c : ℕ) → 48 ≤ c → c ≤ 57 → digit_value c ≡ c - 48
+digit_value_lem c low high = grind (arith, nat_tests)
 
 -- a digit of a numeral
 pub record Digit (c : ℕ) : Type 0 where
@@ -24,15 +24,15 @@ pub digit_of : (ds : List ℕ) (i : ℕ) → all_ascii_digits ds ≡ true → i 
 digit_of ds i all h = let p = digit_at ds i (own.to ds all) h in record { low = omega (arith, p); high = omega (arith, p) }
 
 pub value_step : (ds : List ℕ) (i : ℕ) → all_ascii_digits ds ≡ true → i < length ds → digits_value 10 (take (i + 1) ds) ≡ digits_value 10 (take i ds) * 10 + (get_or ds i 0 - 48)
-value_step ds i all h = let d = digit_of ds i all h in digits_value_more 10 ds i h ∙ ap (λ (x : ℕ). digits_value 10 (take i ds) * 10 + x) (digit_value (get_or ds i 0) d.low d.high)
+value_step ds i all h = let d = digit_of ds i all h in digits_value_more 10 ds i h ∙ ap (λ (x : ℕ). digits_value 10 (take i ds) * 10 + x) (digit_value_lem (get_or ds i 0) d.low d.high)
 
 after_append : (n : ℕ) (xs ys : List ℕ) → digits_value_after 10 n (xs ++ ys) ≡ digits_value_after 10 (digits_value_after 10 n xs) ys
 after_append n [] ys = refl
-after_append n (x ∷ xs) ys = after_append (n * 10 + digitValue x) xs ys
+after_append n (x ∷ xs) ys = after_append (n * 10 + digit_value x) xs ys
 
 after_ge : (n : ℕ) (ds : List ℕ) → n ≤ digits_value_after 10 n ds
 after_ge n [] = omega arith
-after_ge n (d ∷ ds) = omega (arith, after_ge (n * 10 + digitValue d) ds)
+after_ge n (d ∷ ds) = omega (arith, after_ge (n * 10 + digit_value d) ds)
 
 -- a number is no smaller than its front
 pub value_front : (ds : List ℕ) (i : ℕ) → digits_value 10 (take i ds) ≤ digits_value 10 ds
