@@ -2,7 +2,7 @@
 use Rattle.std.proofs.Common.{◌≡◌, ℕ, suc, ◌+◌, ◌<◌, ◌≤◌, Bool, true, false, cond, not, eqb, List, [], ◌∷◌, ◌++◌, length, take, drop, sym, refl, ap, ◌∙◌, subst, append_assoc, append-nil, one-add, arith, length-drop, length-take, Bor}
 use Rattle.std.specs.List.{prefix_len}
 use Rattle.std.proofs.lemmas.List.{map-append}
-use Rattle.journal.specs.Words.{blank, belongs, unblanked, first_of, rest_of, joined, pieces_by, filled, words_of, words_of_lines, words_in, line_of, behind_line, uncommented_of, texts_of}
+use Rattle.journal.specs.Words.{blank, belongs, unblanked, front_of, rest_of, joined, pieces_by, filled, words_of, words_of_lines, words_in, line_of, behind_line, uncommented_of, texts_of}
 use Rattle.journal.specs.declared.words.Class.TheVariants.{Blank, Ink, Line}
 
 abbrev ink : List ℕ → ℕ
@@ -51,16 +51,16 @@ words_unblanked (b ∷ bs) =
     ] refl
 
 -- the words of a text: its first word, where it has one, and the words behind it
-pub words_cut : (t : List ℕ) → words_of t ≡ filled (first_of t ∷ []) ++ words_of (rest_of t)
+pub words_cut : (t : List ℕ) → words_of t ≡ filled (front_of t ∷ []) ++ words_of (rest_of t)
 words_cut t = words_unblanked t ∙ words_at_ink (unblanked t)
 
 -- a word makes what is left shorter
-pub cut_shorter : (t : List ℕ) → length (first_of t) + length (rest_of t) ≤ length t
+pub cut_shorter : (t : List ℕ) → length (front_of t) + length (rest_of t) ≤ length t
 cut_shorter t =
     let u = unblanked t in
     omega (arith, length-take (ink u) u, length-drop (ink u) u, length-drop (prefix_len (belongs Blank) t) t)
 
-rest_none : (t : List ℕ) → length (first_of t) ≡ 0 → rest_of t ≡ []
+rest_none : (t : List ℕ) → length (front_of t) ≡ 0 → rest_of t ≡ []
 rest_none [] = λ e. refl
 rest_none (b ∷ bs) =
     elim (blank b) as (λ (v : Bool). blank b ≡ v → length (take (ink (drop (cond v (1 + prefix_len (belongs Blank) bs) 0) (b ∷ bs))) (drop (cond v (1 + prefix_len (belongs Blank) bs) 0) (b ∷ bs))) ≡ 0 → drop (ink (drop (cond v (1 + prefix_len (belongs Blank) bs) 0) (b ∷ bs))) (drop (cond v (1 + prefix_len (belongs Blank) bs) 0) (b ∷ bs)) ≡ []) [
@@ -87,13 +87,13 @@ filled_some : (w : List ℕ) → 0 < length w → filled (w ∷ []) ≡ w ∷ []
 filled_some [] h = absurd (let z : ⊥ = omega arith in z)
 filled_some (b ∷ bs) h = refl
 
-pub sofar_start : (line word rest : List ℕ) → word ≡ first_of line → rest ≡ rest_of line → Sofar line [] word rest
+pub sofar_start : (line word rest : List ℕ) → word ≡ front_of line → rest ≡ rest_of line → Sofar line [] word rest
 sofar_start line word rest p q = record {
   whole = (λ i. filled (p i ∷ []) ++ words_of (q i)) ∙ sym (words_cut line);
   done = λ e. q ∙ rest_none line (ap length (sym p) ∙ e);
 }
 
-pub sofar_more : (line : List ℕ) (words : List (List ℕ)) (word rest word' rest' : List ℕ) → Sofar line words word rest → 0 < length word → word' ≡ first_of rest → rest' ≡ rest_of rest → Sofar line (words ++ word ∷ []) word' rest'
+pub sofar_more : (line : List ℕ) (words : List (List ℕ)) (word rest word' rest' : List ℕ) → Sofar line words word rest → 0 < length word → word' ≡ front_of rest → rest' ≡ rest_of rest → Sofar line (words ++ word ∷ []) word' rest'
 sofar_more line words word rest word' rest' s h p q = record {
   whole = append_assoc words (word ∷ []) (filled (word' ∷ []) ++ words_of rest')
       ∙ ap (λ (ws : List (List ℕ)). words ++ (word ∷ ws)) ((λ i. filled (p i ∷ []) ++ words_of (q i)) ∙ sym (words_cut rest))

@@ -34,8 +34,8 @@ abbrev pub unblanked : List ℕ → List ℕ
 unblanked text = drop (prefix_len (belongs Blank) text) text
 
 -- the first word, and what stands behind it
-abbrev pub first_of : List ℕ → List ℕ
-first_of text = take (prefix_len (belongs Ink) (unblanked text)) (unblanked text)
+abbrev pub front_of : List ℕ → List ℕ
+front_of text = take (prefix_len (belongs Ink) (unblanked text)) (unblanked text)
 
 abbrev pub rest_of : List ℕ → List ℕ
 rest_of text = drop (prefix_len (belongs Ink) (unblanked text)) (unblanked text)

@@ -1,7 +1,7 @@
 // A line as a list of words.
 ghost use Rattle.std.specs.Prelude.{◌≡◌, ℕ, ◌+◌, ◌≤◌, map, length, OnOk};
 ghost use Rattle.std.specs.List.{prefix_len};
-ghost use Rattle.journal.specs.Words.{blank, belongs, uncommented_of, first_of, rest_of, texts_of, words_of};
+ghost use Rattle.journal.specs.Words.{blank, belongs, uncommented_of, front_of, rest_of, texts_of, words_of};
 
 use std::alloc::AllocError;
 
@@ -68,7 +68,7 @@ pub fn uncommented(line: &[u8]) -> &[u8]
 
 // The first word, and what stands behind it; both are empty where there is none.
 fn cut(text: &[u8]) -> (&[u8], &[u8])
-    ensures word { result.0.now ≡ first_of text.now }
+    ensures word { result.0.now ≡ front_of text.now }
     ensures rest { result.1.now ≡ rest_of text.now }
 {
     let (_blanks, inked) = text.split_at(front(text, Class::Blank));

@@ -10,13 +10,13 @@ use Rattle.ledger.specs.Limits.{max_litres}
 use Rattle.ledger.specs.Rows.{row_at, every, may_share, shared_row, shared_rows}
 use Rattle.ledger.proofs.Ranges.{Shareable, shareable}
 use Rattle.ledger.proofs.Rows.{every_at, shared_rows_later, shared_rows_more}
-use Rattle.ledger.proofs.Traders.{sum-take, get_d_le_sum, credited_to_more, length_credited_to, metered_credited_to, near_credited_to, metered_le}
+use Rattle.ledger.proofs.Traders.{sum-take, get_or_le_sum, credited_to_more, length_credited_to, metered_credited_to, near_credited_to, metered_le}
 
 sum_front : (xs : List ℕ) (i n : ℕ) → i ≤ n → sum (take i xs) ≤ sum (take n xs)
 sum_front xs i n h = let e = ap sum (take-take i n xs h) in let w = sum-take (take n xs) i in omega arith
 
 share_small : (xs : List ℕ) (i n : ℕ) → i < n → get_or xs i 0 ≤ sum (take n xs)
-share_small xs i n h = let e = get_or-take n xs i 0 h in let w = get_d_le_sum (take n xs) i in omega arith
+share_small xs i n h = let e = get_or-take n xs i 0 h in let w = get_or_le_sum (take n xs) i in omega arith
 
 module _ (told : ℕ → Factors) (l : Book) (s : List Point) (shares : List ℕ) (n : ℕ)
     (so : Sound l) (rows : every (may_share l.counts.traders) s n ≡ true) (small : sum (take n shares) ≤ max_litres) where

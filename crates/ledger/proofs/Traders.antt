@@ -58,15 +58,15 @@ sum-take-suc (x ∷ xs) (suc i) =
     let r : sum (x ∷ take (suc i) xs) ≡ sum (x ∷ take i xs) + get_or xs i 0 = omega arith in
     r
 
-pub get_d_le_sum : (xs : List ℕ) (k : ℕ) → get_or xs k 0 ≤ sum xs
-get_d_le_sum [] k = omega arith
-get_d_le_sum (x ∷ xs) zero =
+pub get_or_le_sum : (xs : List ℕ) (k : ℕ) → get_or xs k 0 ≤ sum xs
+get_or_le_sum [] k = omega arith
+get_or_le_sum (x ∷ xs) zero =
     let e = sum_cons x xs in
     let r : x ≤ sum (x ∷ xs) = omega arith in
     r
-get_d_le_sum (x ∷ xs) (suc k) =
+get_or_le_sum (x ∷ xs) (suc k) =
     let e = sum_cons x xs in
-    let h = get_d_le_sum xs k in
+    let h = get_or_le_sum xs k in
     let r : get_or xs k 0 ≤ sum (x ∷ xs) = omega arith in
     r
 

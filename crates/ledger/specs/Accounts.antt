@@ -101,7 +101,7 @@ pub record Near (z : ℤ) (b : ℕ) : Type 0 where
   pub high : z ≤ℤ pos b
   pub low : pos 0 ≤ℤ (z +ℤ pos b)
 
--- how far an account can have come: a day moves it by maxLitres at the most, a booking by maxCorrection
+-- how far an account can have come: a day moves it by max_litres at the most, a booking by max_correction
 abbrev pub reach : Counts → ℕ
 reach c = c.shared * max_litres + c.bookings * max_correction
 

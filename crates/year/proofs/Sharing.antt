@@ -14,7 +14,7 @@ use Rattle.ledger.specs.Rows.{row_at, shared_rows}
 use Rattle.ledger.specs.Sharing.{Tells, Rule, told_on, day_quantity, day_loss, day_uses, day_shares, no_weight, share_fault, share_told, share_answer, shared_book, share_book, share_sheet, share_shares}
 use Rattle.ledger.proofs.Accepted.{shares_out}
 use Rattle.ledger.proofs.Grounds.{by_option}
-use Rattle.ledger.proofs.Traders.{get_d_le_sum}
+use Rattle.ledger.proofs.Traders.{get_or_le_sum}
 use Rattle.year.specs.Settlements.{Day, Settlement, day_shared, points_in, accepted}
 use Rattle.year.specs.Quantities.{weight_of, quantity_on}
 use Rattle.year.proofs.Today.{Running, running}
@@ -82,7 +82,7 @@ module _ (c : List Settlement) (d : Day) (taken : ℕ → ℕ) (l : Book) (s : L
         today = tt;
         sheet =
             sheet_shared c taken n l.counts.traders l.counts.shared s a.sheet d tells qs (told_on l.phase tells) len
-            (λ k. let most = get_d_le_sum qs k in omega arith)
+            (λ k. let most = get_or_le_sum qs k in omega arith)
             (λ k. (profile k (sky_in l.phase).temperature (sky_in l.phase).season).0)
             (told_is run);
         money =

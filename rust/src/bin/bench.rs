@@ -10,7 +10,7 @@
 //! With the feature `rattle` the proved library is timed too. It is a static library that exports
 //! `uint64_t keldrava_bench_running(uint32_t days)` and `keldrava_bench_largest`:
 //!
-//!     RUSTFLAGS="-L native=$PWD/target/staticlib -l static=NAME" \
+//!     RUSTFLAGS="-L native=$PWD/crates/NAME/out -l static=NAME" \
 //!         cargo run --release --features rattle --manifest-path rust/Cargo.toml --bin bench
 
 use std::hint::black_box;
