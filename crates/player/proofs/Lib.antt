@@ -1,2 +1,3 @@
 mod Adding
 mod Ties
+mod Ending

@@ -1,3 +1,4 @@
 pub mod Playing
 pub mod Printed
 pub mod Running
+pub mod Slips

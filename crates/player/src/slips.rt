@@ -1,16 +1,28 @@
 // The slips of a journal's readings that are still open, so that a journal names them by their points.
-ghost use Rattle.std.specs.Prelude.{◌≡◌, ◌<◌, IfErr, vec_len, vec_capacity, OnSome};
+ghost use Rattle.std.specs.Prelude.{◌≡◌, ◌<◌, All, IfErr, IfSome, vec_len, vec_capacity, OnSome};
+ghost use Rattle.player.specs.Slips.{Made};
 
 use crate::station::Station;
-use ledger::{Ledger, Point, Refused, Slip};
+use ledger::{Ledger, Particulars, Point, Refused, Slip};
 use refusals::Refusal;
 use std::alloc::{AllocError, Global};
 
 const MAX_PLACES: usize = 4096;
 
+// What the points of a ledger made up for a slip are admitted with.
+const GIVEN: Particulars = Particulars {
+    trader: 0,
+    segment: 0,
+    digits: 4,
+    litres_per_unit: 1,
+    reading: 0,
+    scale_factor: 0,
+};
+
 // A point has at most one open slip.
 pub struct Slips {
     open: Vec<Slip>,
+    ghost made: { All Made open.items },
 }
 
 impl Slips {
@@ -45,7 +57,8 @@ impl Slips {
 
     // Takes the point's slip out; a place is then free for it.
     fn take(&mut self, point: usize) -> Option<Slip>
-        ensures { OnSome result (vec_len self.new.open < vec_capacity self.new.open) }
+        ensures room { OnSome result (vec_len self.new.open < vec_capacity self.new.open) }
+        ensures made { IfSome result Made }
     {
         match self.place(point) {
             Some(i) if i < self.open.len() => Some(self.open.remove(i)),
@@ -150,6 +163,45 @@ impl Slips {
         }
         open.destroy_empty();
         Ok(())
+    }
+
+    // Withdraws every slip from a ledger made up for it. A slip cannot be let go, not even as the program ends: one that its own ledger would
+    // not take back, which does not happen to a ledger's own slips, is ended here.
+    pub fn end_elsewhere(self) {
+        let Slips { mut open } = self;
+        let ledger = full_ledger();
+        while let Some(slip) = open.pop() {
+            end_slip(&ledger, slip);
+        }
+        open.destroy_empty();
+    }
+}
+
+// A ledger with as many points as it can have.
+fn full_ledger() -> Ledger
+    ensures { result.book.counts.points ≡ 4096 }
+{
+    let mut ledger = Ledger::new(0);
+    let _trader = ledger.admit_trader();
+    let mut sheet = [Point::UNUSED; MAX_PLACES];
+    for _ in 0..MAX_PLACES {
+        let _point = ledger.admit_point(&mut sheet, GIVEN);
+    }
+    ledger
+}
+
+// Withdraws a slip from a full ledger. A slip is only its number and its point: a sheet on which it is open at every place will do.
+fn end_slip(ledger: &Ledger, slip: Slip)
+    requires full { ledger.now.book.counts.points ≡ 4096 }
+    requires made { Made slip }
+{
+    let row = Point {
+        slip: slip.number(),
+        ..Point::UNUSED
+    };
+    match ledger.withdraw(&mut [row; MAX_PLACES], slip) {
+        Ok(()) => {}
+        Err(_) => unreachable(),
     }
 }
 

@@ -41,7 +41,7 @@ impl fmt::Display for Halt {
 }
 
 // Why the program ends with an error. A slip cannot be let go, so one that the ledger would not take back, which does not happen to a
-// ledger's own, goes out with the program.
+// ledger's own, is handed on to be ended elsewhere.
 pub enum Stop {
     Error(anyhow::Error),
     Unended(Slips),

@@ -10,7 +10,6 @@ use help::{HELP, MAKE_ONE};
 use session::{Played, play};
 use std::alloc::Global;
 use std::io::{ErrorKind, Read, Write};
-use std::mem::ManuallyDrop;
 use std::process::{ExitCode, Termination};
 use std::{env, fs};
 
@@ -141,8 +140,7 @@ fn main(rt: HostRuntime) -> ExitCode {
             told.report(&rt)
         }
         Err(Stop::Unended(slips)) => {
-            // The process ends here, and the slips' ledger with it.
-            let _kept = unsafe { ManuallyDrop::new_unchecked(slips) };
+            slips.end_elsewhere();
             ExitCode::FAILURE
         }
     }
