@@ -1,4 +1,6 @@
 pub mod Grounds
+pub mod HandedBack
+pub mod Withdrawals
 pub mod Accepted
 pub mod AcceptedReadings
 pub mod Rows

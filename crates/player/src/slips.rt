@@ -165,15 +165,19 @@ impl Slips {
         Ok(())
     }
 
-    // Withdraws every slip from a ledger made up for it. A slip cannot be let go, not even as the program ends: one that its own ledger would
-    // not take back, which does not happen to a ledger's own slips, is ended here.
-    pub fn end_elsewhere(self) {
+    // Withdraws every slip from a ledger made up for it, and tells how many there were. A slip cannot be let go, not even as the program
+    // ends: one that its own ledger would not take back, which does not happen to a ledger's own slips, is ended here.
+    pub fn end_elsewhere(self) -> usize
+        ensures { result ≡ vec_len self.open }
+    {
         let Slips { mut open } = self;
+        let ended = open.len();
         let ledger = full_ledger();
         while let Some(slip) = open.pop() {
             end_slip(&ledger, slip);
         }
         open.destroy_empty();
+        ended
     }
 }
 

@@ -140,7 +140,7 @@ fn main(rt: HostRuntime) -> ExitCode {
             told.report(&rt)
         }
         Err(Stop::Unended(slips)) => {
-            slips.end_elsewhere();
+            let _ended = slips.end_elsewhere();
             ExitCode::FAILURE
         }
     }

@@ -1,4 +1,4 @@
-use Rattle.ledger_tests.proofs.Refusing.{handed}
+use Rattle.ledger.proofs.HandedBack.{handed}
 use Rattle.ledger_tests.proofs.days.sharing_out.Goals as goal
 
 pub returns : goal.returns

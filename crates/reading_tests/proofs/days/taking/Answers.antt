@@ -3,7 +3,7 @@ use Rattle.std.proofs.lemmas.Bool.{eq-eqb}
 use Rattle.ledger.specs.declared.book.Book.{Book}
 use Rattle.ledger.specs.declared.day.MeasuredDay.{MeasuredDay}
 use Rattle.ledger.specs.Days.{is_measured}
-use Rattle.reading_tests.proofs.Refusing.{handed}
+use Rattle.ledger.proofs.HandedBack.{handed}
 use Rattle.reading_tests.proofs.days.taking.Goals as goal
 
 pub returns : goal.returns

@@ -1,7 +1,8 @@
 use Rattle.std.proofs.Common.{sym, refl, ◌∙◌}
 use Rattle.ledger.specs.declared.book.Book.{Book}
 use Rattle.ledger.specs.Readings.{book_fault, hand_fault, withdraw_fault}
-use Rattle.reading_tests.proofs.Ending.{back, stays}
+use Rattle.ledger.proofs.HandedBack.{same_token}
+use Rattle.reading_tests.proofs.Ending.{stays}
 use Rattle.reading_tests.proofs.slips.ending.Goals as goal
 
 pub returns-in-Book : goal.returns-in-Book
@@ -10,7 +11,7 @@ returns-in-Book c =
     let f = book_fault l c.args.sheet.now c.args.slip in
     let e = c.book.ensures in
     record {
-      slip = back f c.args.slip _ _ e.answer;
+      slip = same_token f c.args.slip _ _ e.answer;
       points = stays (λ (b : Book). b.counts.points) f _ l _ e.state refl;
       day = stays (λ (b : Book). b.phase) f _ l _ e.state refl;
     }
@@ -21,7 +22,7 @@ returns-in-HandOver c =
     let f = hand_fault l c.args.sheet.now c.args.slip c.in-HandOver.trader in
     let e = c.hand_over.ensures in
     record {
-      slip = back f c.args.slip _ _ e.answer;
+      slip = same_token f c.args.slip _ _ e.answer;
       points = stays (λ (b : Book). b.counts.points) f _ l _ e.state refl;
       day = stays (λ (b : Book). b.phase) f _ l _ e.state refl;
     }
@@ -29,4 +30,4 @@ returns-in-HandOver c =
 pub returns-in-Err : goal.returns-in-Err
 returns-in-Err c =
     let f = withdraw_fault c.args.ledger.now.book c.args.sheet.now c.args.slip in
-    record { slip = back f c.args.slip _ _ (sym c.in-Err.is ∙ c.withdraw.ensures.answer); points = refl; day = refl }
+    record { slip = same_token f c.args.slip _ _ (sym c.in-Err.is ∙ c.withdraw.ensures.answer); points = refl; day = refl }

@@ -1,9 +1,20 @@
--- What a test knows of a call on a day that may be refused: the day that is handed back, and the ledger's running day.
-use Rattle.std.proofs.Common.{◌≡◌, Some, None, Option, Result, sym, refl, subst, MatchResult}
+-- The token, a day or a slip, that a refusal hands back.
+use Rattle.std.proofs.Common.{◌≡◌, IfErr, IfOk, None, Some, Err, Option, Result, sym, refl, ap, ◌∙◌, subst, MatchResult}
 use Rattle.refusals.specs.declared.Refusal.{Refusal}
 use Rattle.ledger.specs.declared.book.Book.{Book}
 use Rattle.ledger.specs.declared.day.Refused.{Refused}
 use Rattle.ledger.specs.Grounds.{handed_back, unless}
+use Rattle.ledger.proofs.Grounds.{by_option}
+
+-- it is the token that was handed in
+pub same_token : {A T : Type 0} (f : Option Refusal) (t : T) (x : A) (r : Result A (Refused T)) → r ≡ handed_back f t x → IfErr r (λ e. e.token ≡ t)
+same_token f t x r er =
+    subst (λ z. IfErr z (λ e. e.token ≡ t)) (sym er)
+    (by_option (λ o. IfErr (handed_back o t x) (λ e. e.token ≡ t)) f (λ _. tt) (λ _. refl))
+
+-- a call without a ground of refusal is not refused
+pub never : {A T : Type 0} (f : Option Refusal) (t : T) (x : A) (e : Refused T) → f ≡ None → Err e ≡ handed_back f t x → ⊥
+never f t x e none is = subst (λ z. IfOk z (λ _. ⊥)) (is ∙ ap (λ (o : Option Refusal). handed_back o t x) none) tt
 
 -- the token and the running day after a refusal
 abbrev pub Back : {T : Type 0} → T → Book → Book → Refused T → Type 0
