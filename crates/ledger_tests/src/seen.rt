@@ -33,6 +33,31 @@ impl Seen {
         }
     }
 
+    // The same after so many readings.
+    pub(crate) fn with_readings(self, readings: u32) -> Seen {
+        Seen {
+            counts: Counts {
+                readings,
+                ..self.counts
+            },
+            ..self
+        }
+    }
+
+    // The same after one booking, which moved so much from the distributor to a trader.
+    pub(crate) fn with_booking(self, account: [i64; 2], correction: i64) -> Seen {
+        Seen {
+            counts: Counts {
+                bookings: 1,
+                ..self.counts
+            },
+            account,
+            correction,
+            accounts: i128::from(account[0]) + i128::from(account[1]),
+            ..self
+        }
+    }
+
     // The same but for the number of days opened.
     pub(crate) fn with_opened(self, opened: u32) -> Seen {
         Seen {

@@ -1,7 +1,8 @@
 // Reading points: what is refused, and what a withdrawn reading leaves.
+use crate::readings::slips::{Call, end, ended, reading};
+use crate::readings::station::{SECOND, two_points};
 use crate::seen::Seen;
-use crate::slips::{Call, end, ended, reading};
-use crate::station::{ROW, SECOND, two_points};
+use crate::station::ROW;
 use ledger::{Ledger, Point};
 use std::process::Abort;
 use std::test::Fail;

@@ -1,7 +1,8 @@
 // Bookings, hand-overs and withdrawals that are refused.
+use crate::readings::slips::{Call, end, ended, ending, reading};
+use crate::readings::station::{SECOND, three_points, two_points};
 use crate::seen::Seen;
-use crate::slips::{Call, end, ended, ending, reading};
-use crate::station::{ROW, SECOND, three_points, two_points};
+use crate::station::ROW;
 use ledger::{Point, Refused};
 use std::process::Abort;
 use std::test::Fail;

@@ -2,9 +2,10 @@
 // ledger's own.
 ghost use Rattle.std.specs.Prelude.{◌≡◌};
 
+use crate::readings::slips::{Call, end, ended, ending, reading};
+use crate::readings::station::{SECOND, two_points};
 use crate::seen::Seen;
-use crate::slips::{Call, end, ended, ending, reading};
-use crate::station::{ROW, SECOND, two_points};
+use crate::station::ROW;
 use ledger::{Ledger, Point, Refused};
 use refusals::Refusal;
 use std::test::Fail;
