@@ -1,18 +1,14 @@
 -- Dates as three numbers, and what C is told of them.
-use Rattle.std.specs.Prelude.{◌≡◌, ℕ, ◌<◌, ◌≤◌, false, ◌⊎◌}
+use Rattle.std.specs.Prelude.{◌≡◌, ℕ, ◌<◌, ◌≤◌}
 use Rattle.refusals.specs.declared.Refusal.TheVariants.{NoSuchDay}
 use Rattle.refusals.specs.Numbers.{number_of}
 use Rattle.calendar.specs.declared.date.Date.{Date}
-use Rattle.calendar.specs.Days.{is_day, Dated}
+use Rattle.calendar.specs.Days.{Dated}
 use Rattle.capi.specs.declared.answer.DateAnswer.{DateAnswer}
 
 -- The date that a year, a month and a day write.
 abbrev pub written : ℕ → ℕ → ℕ → Date
 written year month day = record { year = year; month = month; day = day }
-
--- The same date, or two that are both no day.
-abbrev pub DayOrNone : Date → Date → Type 0
-DayOrNone given taken = (taken ≡ given) ⊎ ((is_day given ≡ false) × (is_day taken ≡ false))
 
 -- Status 0 and the one date that has the number, or the refusal's number and noughts.
 abbrev pub DateTold : ℕ → DateAnswer → Type 0

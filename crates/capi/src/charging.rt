@@ -1,64 +1,35 @@
-// The charge and the fee of each charge rule. Quantities are in MJ, rates and fees in thousandths of a forint.
-ghost use Rattle.std.specs.Prelude.{◌≡◌, ◌*◌, true, false, MatchResult};
-ghost use Rattle.refusals.specs.declared.Refusal.TheVariants.{Energy};
+// The charge and the fee of each charge rule. Quantities are in MJ, rates and fees in thousandths of a forint. The C interface takes each
+// number by itself.
+ghost use Rattle.std.specs.Prelude.{◌≡◌, ◌*◌};
+ghost use Rattle.charges.specs.Quantity.{unless_too_much};
 ghost use Rattle.capi.specs.Told.{told};
-ghost use Rattle.capi.specs.Charging.{both_fit, all_fit, rate_fits, unless_too_much, OfferedOf, nomination_charge, nomination_fee, balance_charge, balance_fee, offered_charge, offered_fee};
+ghost use Rattle.capi.specs.Charging.{all_fit, rate_fits, nomination_charge, nomination_fee, balance_charge, balance_fee, offered_charge, offered_fee};
 
-use super::answer::{Answer, tell};
-use charges::balance::{Balance, OfferedBalance, Offers};
-use charges::megajoules::Megajoules;
+use super::answer::Answer;
+use charges::balance::{Balance, OfferedBalance};
 use charges::nomination::Nomination;
 use charges::rules::Charge;
 use charges::tariff::Tariff;
 use refusals::Refusal;
 
-fn nomination_of(nominated: u64, actual: u64) -> Result<Nomination, Refusal>
-    ensures { MatchResult result (λ n. (both_fit nominated actual ≡ true) × (n.nominated.mj ≡ nominated) × (n.actual.mj ≡ actual)) (λ e. (both_fit nominated actual ≡ false) × (e ≡ Energy)) }
-{
-    Ok(Nomination {
-        nominated: Megajoules::new(nominated)?,
-        actual: Megajoules::new(actual)?,
-    })
-}
-
-fn balance_of(source: u64, consumption: u64) -> Result<Balance, Refusal>
-    ensures { MatchResult result (λ b. (both_fit source consumption ≡ true) × (b.source.mj ≡ source) × (b.consumption.mj ≡ consumption)) (λ e. (both_fit source consumption ≡ false) × (e ≡ Energy)) }
-{
-    Ok(Balance {
-        source: Megajoules::new(source)?,
-        consumption: Megajoules::new(consumption)?,
-    })
-}
-
-fn offers_of(heg: u64, hego: u64) -> Result<Offers, Refusal>
-    ensures { MatchResult result (λ o. (both_fit heg hego ≡ true) × (o.heg.mj ≡ heg) × (o.hego.mj ≡ hego)) (λ e. (both_fit heg hego ≡ false) × (e ≡ Energy)) }
-{
-    Ok(Offers {
-        heg: Megajoules::new(heg)?,
-        hego: Megajoules::new(hego)?,
-    })
-}
-
+// A balance with its negative and its positive offers.
 fn offered_of(
-    source: u64,
-    consumption: u64,
-    negative_heg: u64,
-    negative_hego: u64,
-    positive_heg: u64,
-    positive_hego: u64,
+    balance: (u64, u64),
+    negative: (u64, u64),
+    positive: (u64, u64),
 ) -> Result<OfferedBalance, Refusal>
-    ensures { MatchResult result (λ b. (all_fit source consumption negative_heg negative_hego positive_heg positive_hego ≡ true) × OfferedOf source consumption negative_heg negative_hego positive_heg positive_hego b) (λ e. (all_fit source consumption negative_heg negative_hego positive_heg positive_hego ≡ false) × (e ≡ Energy)) }
+    ensures { result ≡ unless_too_much (all_fit balance.0 balance.1 negative.0 negative.1 positive.0 positive.1) (record { balance = record { source = balance.0; consumption = balance.1 }; negative = record { heg = negative.0; hego = negative.1 }; positive = record { heg = positive.0; hego = positive.1 } }) }
 {
     Ok(OfferedBalance {
-        balance: balance_of(source, consumption)?,
-        negative: offers_of(negative_heg, negative_hego)?,
-        positive: offers_of(positive_heg, positive_hego)?,
+        balance: balance.try_into()?,
+        negative: negative.try_into()?,
+        positive: positive.try_into()?,
     })
 }
 
 // The fee for a charge of any rule.
 fn fee<C: Charge>(rule: &C, rate: u64) -> Result<u64, Refusal>
-    ensures { result ≡ unless_too_much (rate_fits rate) (C.Charge.due rule.now * rate) }
+    ensures { result ≡ unless_too_much (rate_fits rate) (C.due rule.now * rate) }
 {
     Ok(Tariff::new(rate)?.fee(rule))
 }
@@ -68,10 +39,9 @@ fn fee<C: Charge>(rule: &C, rate: u64) -> Result<u64, Refusal>
 pub extern "C" fn keldrava_nomination_charge(nominated: u64, actual: u64) -> Answer
     ensures { result ≡ told (nomination_charge nominated actual) }
 {
-    match nomination_of(nominated, actual) {
-        Ok(nomination) => tell(Ok(nomination.charge())),
-        Err(e) => tell(Err(e)),
-    }
+    Nomination::try_from((nominated, actual))
+        .map(|nomination| nomination.charge())
+        .into()
 }
 
 // The fee for it.
@@ -79,10 +49,9 @@ pub extern "C" fn keldrava_nomination_charge(nominated: u64, actual: u64) -> Ans
 pub extern "C" fn keldrava_nomination_fee(nominated: u64, actual: u64, rate: u64) -> Answer
     ensures { result ≡ told (nomination_fee nominated actual rate) }
 {
-    match nomination_of(nominated, actual) {
-        Ok(nomination) => tell(fee(&nomination, rate)),
-        Err(e) => tell(Err(e)),
-    }
+    Nomination::try_from((nominated, actual))
+        .and_then(|nomination| fee(&nomination, rate))
+        .into()
 }
 
 // The MJ to be charged on a balance without offers.
@@ -90,10 +59,9 @@ pub extern "C" fn keldrava_nomination_fee(nominated: u64, actual: u64, rate: u64
 pub extern "C" fn keldrava_balance_charge(source: u64, consumption: u64) -> Answer
     ensures { result ≡ told (balance_charge source consumption) }
 {
-    match balance_of(source, consumption) {
-        Ok(balance) => tell(Ok(balance.charge())),
-        Err(e) => tell(Err(e)),
-    }
+    Balance::try_from((source, consumption))
+        .map(|balance| balance.charge())
+        .into()
 }
 
 // The fee for it.
@@ -101,10 +69,9 @@ pub extern "C" fn keldrava_balance_charge(source: u64, consumption: u64) -> Answ
 pub extern "C" fn keldrava_balance_fee(source: u64, consumption: u64, rate: u64) -> Answer
     ensures { result ≡ told (balance_fee source consumption rate) }
 {
-    match balance_of(source, consumption) {
-        Ok(balance) => tell(fee(&balance, rate)),
-        Err(e) => tell(Err(e)),
-    }
+    Balance::try_from((source, consumption))
+        .and_then(|balance| fee(&balance, rate))
+        .into()
 }
 
 // The MJ to be charged on a balance with offers: negative ones serve a surplus, positive ones a deficit.
@@ -119,17 +86,11 @@ pub extern "C" fn keldrava_offered_balance_charge(
 ) -> Answer
     ensures { result ≡ told (offered_charge source consumption negative_heg negative_hego positive_heg positive_hego) }
 {
-    match offered_of(
-        source,
-        consumption,
-        negative_heg,
-        negative_hego,
-        positive_heg,
-        positive_hego,
-    ) {
-        Ok(offered) => tell(Ok(offered.charge())),
-        Err(e) => tell(Err(e)),
-    }
+    let negative = (negative_heg, negative_hego);
+    let positive = (positive_heg, positive_hego);
+    offered_of((source, consumption), negative, positive)
+        .map(|offered| offered.charge())
+        .into()
 }
 
 // The fee for it.
@@ -145,15 +106,9 @@ pub extern "C" fn keldrava_offered_balance_fee(
 ) -> Answer
     ensures { result ≡ told (offered_fee source consumption negative_heg negative_hego positive_heg positive_hego rate) }
 {
-    match offered_of(
-        source,
-        consumption,
-        negative_heg,
-        negative_hego,
-        positive_heg,
-        positive_hego,
-    ) {
-        Ok(offered) => tell(fee(&offered, rate)),
-        Err(e) => tell(Err(e)),
-    }
+    let negative = (negative_heg, negative_hego);
+    let positive = (positive_heg, positive_hego);
+    offered_of((source, consumption), negative, positive)
+        .and_then(|offered| fee(&offered, rate))
+        .into()
 }

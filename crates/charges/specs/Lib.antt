@@ -1,2 +1,4 @@
+pub mod Quantity
 pub mod Rule
+pub mod Offers
 pub mod Settings

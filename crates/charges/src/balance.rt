@@ -1,9 +1,14 @@
 // The charge on the balance of a source and its consumption, without offers and with them.
-ghost use Rattle.std.specs.Prelude.{◌≡◌, ◌+◌, ◌≤◌};
-ghost use Rattle.charges.specs.Rule.{apart, balance_inside, balance_due, usable, offered_inside, offered_due};
+ghost use Rattle.std.specs.Prelude.{◌≡◌, ◌+◌, ◌≤◌, max, refl};
+ghost use Rattle.std.proofs.Common.{arith};
+ghost use Rattle.std.proofs.lemmas.Bool.Decides.{nat_tests};
+ghost use Rattle.charges.specs.Quantity.{both_fit, unless_too_much};
+ghost use Rattle.charges.specs.Offers.{total};
+ghost use Rattle.charges.specs.Rule.{apart, tolerance, balance_inside, balance_due, usable, offered_inside, offered_due};
 
 use super::megajoules::Megajoules;
-use super::rules::{Charge, Tolerance, distance, tolerated};
+use super::rules::{Charge, Tolerance};
+use refusals::Refusal;
 
 // What a source gave, and what was consumed from it: a surplus where the source is not below, else a deficit.
 #[derive(Clone, Copy)]
@@ -12,25 +17,48 @@ pub struct Balance {
     pub consumption: Megajoules,
 }
 
+// From the MJ of the source and the MJ consumed.
+impl TryFrom<(u64, u64)> for Balance {
+    type Error = Refusal;
+
+    ghost try_from_gives = { λ mj r. r ≡ unless_too_much (both_fit mj.0 mj.1) (record { source = mj.0; consumption = mj.1 }) };
+
+    fn try_from(mj: (u64, u64)) -> Result<Balance, Refusal> {
+        Ok(Balance {
+            source: mj.0.try_into()?,
+            consumption: mj.1.try_into()?,
+        })
+    }
+}
+
 impl Tolerance for Balance {
     const PERCENT: u64 = 2;
 
-    ghost inside = { λ b. balance_inside b.source.mj b.consumption.mj };
+    ghost PERCENT = { 2 };
 
-    fn is_inside(&self) -> bool {
-        distance(self.source, self.consumption) <= tolerated(self.source, Self::PERCENT)
+    ghost basis = { λ b. b.source };
+
+    ghost deviation = { λ b. apart b.source b.consumption };
+
+    ghost free = { λ b. tolerance b.source 2 };
+
+    ghost inside = { λ b. balance_inside b.source b.consumption };
+
+    ghost inside_is_at_most_free = { λ _. refl };
+
+    fn deviation(&self) -> Megajoules {
+        self.source.abs_diff(self.consumption)
+    }
+
+    fn free(&self) -> u64 {
+        self.source.per_cent(Self::PERCENT)
     }
 }
 
 impl Charge for Balance {
-    ghost deviation = { λ b. apart b.source.mj b.consumption.mj };
+    ghost due = { λ b. balance_due b.source b.consumption };
 
-    ghost due = { λ b. balance_due b.source.mj b.consumption.mj };
-
-    fn charge(&self) -> u64 {
-        let free = tolerated(self.source, Self::PERCENT);
-        distance(self.source, self.consumption).saturating_sub(free)
-    }
+    ghost due_is_beyond_free = { λ _. refl };
 }
 
 // The offers of one direction, by their two kinds, HEG and HEGO.
@@ -40,10 +68,24 @@ pub struct Offers {
     pub hego: Megajoules,
 }
 
+// From the MJ of HEG and the MJ of HEGO.
+impl TryFrom<(u64, u64)> for Offers {
+    type Error = Refusal;
+
+    ghost try_from_gives = { λ mj r. r ≡ unless_too_much (both_fit mj.0 mj.1) (record { heg = mj.0; hego = mj.1 }) };
+
+    fn try_from(mj: (u64, u64)) -> Result<Offers, Refusal> {
+        Ok(Offers {
+            heg: mj.0.try_into()?,
+            hego: mj.1.try_into()?,
+        })
+    }
+}
+
 impl Offers {
     // Both kinds together.
     pub fn total(self) -> u64
-        ensures value { result ≡ self.heg.mj + self.hego.mj }
+        ensures value { result ≡ total self }
         ensures bound { result ≤ 2000000000000 }
     {
         self.heg.mj() + self.hego.mj()
@@ -61,7 +103,7 @@ pub struct OfferedBalance {
 impl OfferedBalance {
     // The offers that serve this balance.
     pub fn usable_offers(self) -> u64
-        ensures value { result ≡ usable self.balance.source.mj self.balance.consumption.mj (self.negative.heg.mj + self.negative.hego.mj) (self.positive.heg.mj + self.positive.hego.mj) }
+        ensures value { result ≡ usable self.balance.source self.balance.consumption (total self.negative) (total self.positive) }
         ensures bound { result ≤ 2000000000000 }
     {
         if self.balance.source.mj() >= self.balance.consumption.mj() {
@@ -73,24 +115,31 @@ impl OfferedBalance {
 }
 
 impl Tolerance for OfferedBalance {
-    const PERCENT: u64 = 2;
+    const PERCENT: u64 = Balance::PERCENT;
 
-    ghost inside = { λ b. offered_inside b.balance.source.mj b.balance.consumption.mj (b.negative.heg.mj + b.negative.hego.mj) (b.positive.heg.mj + b.positive.hego.mj) };
+    ghost PERCENT = { 2 };
 
-    fn is_inside(&self) -> bool {
-        let deviation = distance(self.balance.source, self.balance.consumption);
-        deviation <= tolerated(self.balance.source, Self::PERCENT)
-            || deviation <= self.usable_offers()
+    ghost basis = { λ b. b.balance.source };
+
+    ghost deviation = { λ b. apart b.balance.source b.balance.consumption };
+
+    ghost free = { λ b. max (tolerance b.balance.source 2) (usable b.balance.source b.balance.consumption (total b.negative) (total b.positive)) };
+
+    ghost inside = { λ b. offered_inside b.balance.source b.balance.consumption (total b.negative) (total b.positive) };
+
+    ghost inside_is_at_most_free = { Prim.grind (arith, nat_tests) };
+
+    fn deviation(&self) -> Megajoules {
+        self.balance.deviation()
+    }
+
+    fn free(&self) -> u64 {
+        self.balance.free().max(self.usable_offers())
     }
 }
 
 impl Charge for OfferedBalance {
-    ghost deviation = { λ b. apart b.balance.source.mj b.balance.consumption.mj };
+    ghost due = { λ b. offered_due b.balance.source b.balance.consumption (total b.negative) (total b.positive) };
 
-    ghost due = { λ b. offered_due b.balance.source.mj b.balance.consumption.mj (b.negative.heg.mj + b.negative.hego.mj) (b.positive.heg.mj + b.positive.hego.mj) };
-
-    fn charge(&self) -> u64 {
-        let free = tolerated(self.balance.source, Self::PERCENT).max(self.usable_offers());
-        distance(self.balance.source, self.balance.consumption).saturating_sub(free)
-    }
+    ghost due_is_beyond_free = { λ _. refl };
 }

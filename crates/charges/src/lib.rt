@@ -2,6 +2,7 @@
 #![tactic(auto)]
 
 pub mod balance;
+mod limit;
 pub mod megajoules;
 pub mod nomination;
 pub mod rules;

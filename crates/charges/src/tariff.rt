@@ -3,6 +3,7 @@ ghost use Rattle.std.specs.Prelude.{◌≡◌, ◌*◌, ◌<◌, ◌≤◌, true
 ghost use Rattle.refusals.specs.declared.Refusal.TheVariants.{Energy};
 ghost use Rattle.charges.specs.Settings.{counted};
 
+use super::limit::at_most;
 use super::rules::Charge;
 use refusals::Refusal;
 
@@ -16,23 +17,13 @@ pub struct Tariff {
     ghost limit: { rate ≤ 1000000 },
 }
 
-// The rate itself, unless it is above the limit.
-fn within_limit(rate: u64) -> Result<u64, Refusal>
-    ensures { MatchResult result (λ n. (n ≡ rate) × (rate ≤ 1000000)) (λ e. (1000000 < rate) × (e ≡ Energy)) }
-{
-    if rate > MOST_RATE {
-        return Err(Refusal::Energy);
-    }
-    Ok(rate)
-}
-
 impl Tariff {
     // A new tariff, whose rate was not yet set again.
     pub fn new(rate: u64) -> Result<Tariff, Refusal>
         ensures { MatchResult result (λ t. (rate ≤ 1000000) × (t.rate ≡ rate) × (t.settings ≡ 0)) (λ e. (1000000 < rate) × (e ≡ Energy)) }
     {
         Ok(Tariff {
-            rate: within_limit(rate)?,
+            rate: at_most(MOST_RATE, rate)?,
             settings: 0,
         })
     }
@@ -55,16 +46,17 @@ impl Tariff {
     pub fn set_rate(&mut self, rate: u64) -> Result<(), Refusal>
         ensures { MatchResult result (λ _. (rate ≤ 1000000) × (self.new.rate ≡ rate) × (self.new.settings ≡ counted self.old.settings)) (λ e. (1000000 < rate) × (e ≡ Energy) × (self.new ≡ self.old)) }
     {
-        let rate = within_limit(rate)?;
-        let settings = self.settings.saturating_add(1);
-        *self = Tariff { rate, settings };
+        *self = Tariff {
+            rate: at_most(MOST_RATE, rate)?,
+            settings: self.settings.saturating_add(1),
+        };
         Ok(())
     }
 
     // The fee for a charge of any rule, in thousandths of a forint: the MJ charged times the rate.
     pub fn fee<C: Charge>(&self, rule: &C) -> u64
-        ensures value { result ≡ C.Charge.due rule.now * self.now.rate }
-        ensures none_inside { C.Tolerance.inside rule.now ≡ true → result ≡ 0 }
+        ensures value { result ≡ C.due rule.now * self.now.rate }
+        ensures none_inside { C.inside rule.now ≡ true → result ≡ 0 }
         ensures bound { result ≤ 1000000000000000000 }
     {
         rule.charge() * self.rate

@@ -1,5 +1,5 @@
 // The charges: each rule at, just inside and just past its tolerance and its offers, at 0 and at the limit; fee and tariff.
-use charges::balance::{Balance, OfferedBalance, Offers};
+use charges::balance::{Balance, OfferedBalance};
 use charges::megajoules::Megajoules;
 use charges::nomination::Nomination;
 use charges::rules::{Charge, Tolerance};
@@ -271,33 +271,23 @@ fn check_rule<C: Charge>(rt: &impl Abort, rule: &C, charged: u64) {
     assert_eq!(rt; rule.is_inside(), charged == 0);
 }
 
-fn nomination(nominated: u64, actual: u64) -> Result<Nomination, Refusal> {
-    Ok(Nomination {
-        nominated: Megajoules::new(nominated)?,
-        actual: Megajoules::new(actual)?,
-    })
-}
-
-fn balance(source: u64, consumption: u64) -> Result<Balance, Refusal> {
-    Ok(Balance {
-        source: Megajoules::new(source)?,
-        consumption: Megajoules::new(consumption)?,
-    })
-}
-
-fn offers(kinds: (u64, u64)) -> Result<Offers, Refusal> {
-    Ok(Offers {
-        heg: Megajoules::new(kinds.0)?,
-        hego: Megajoules::new(kinds.1)?,
-    })
+// Each rule of two quantities charges what its row says.
+fn check_rows<C: Charge + TryFrom<(u64, u64), Error = Refusal> + Drop>(
+    rt: &impl Abort,
+    rows: &[(u64, u64, u64)],
+) -> Result<(), Fail> {
+    for (basis, other, charged) in rows {
+        check_rule(rt, &C::try_from((*basis, *other))?, *charged);
+    }
+    Ok(())
 }
 
 fn check_offered(rt: &impl Abort, rows: &[Offered]) -> Result<(), Fail> {
     for row in rows {
         let rule = OfferedBalance {
-            balance: balance(row.source, row.consumption)?,
-            negative: offers(row.negative)?,
-            positive: offers(row.positive)?,
+            balance: (row.source, row.consumption).try_into()?,
+            negative: row.negative.try_into()?,
+            positive: row.positive.try_into()?,
         };
         check_rule(rt, &rule, row.charged);
     }
@@ -306,18 +296,12 @@ fn check_offered(rt: &impl Abort, rows: &[Offered]) -> Result<(), Fail> {
 
 #[test]
 fn nominations(rt: HostRuntime) -> Result<(), Fail> {
-    for row in &NOMINATIONS {
-        check_rule(&rt, &nomination(row.0, row.1)?, row.2);
-    }
-    Ok(())
+    check_rows::<Nomination>(&rt, &NOMINATIONS)
 }
 
 #[test]
 fn balances(rt: HostRuntime) -> Result<(), Fail> {
-    for row in &BALANCES {
-        check_rule(&rt, &balance(row.0, row.1)?, row.2);
-    }
-    Ok(())
+    check_rows::<Balance>(&rt, &BALANCES)
 }
 
 #[test]
@@ -335,31 +319,23 @@ fn ends_with_offers(rt: HostRuntime) -> Result<(), Fail> {
     check_offered(&rt, &ENDS)
 }
 
-// The refusal of a quantity, if it is one.
-fn refused(mj: u64) -> Option<Refusal> {
-    match Megajoules::new(mj) {
-        Ok(_) => None,
-        Err(e) => Some(e),
-    }
-}
-
 #[test]
 fn quantities(rt: HostRuntime) {
-    assert_eq!(rt; refused(0), None);
-    assert_eq!(rt; refused(MOST), None);
-    assert_eq!(rt; refused(MOST + 1), Some(Refusal::Energy));
-    assert_eq!(rt; refused(u64::MAX), Some(Refusal::Energy));
+    assert_eq!(rt; Megajoules::new(0).err(), None);
+    assert_eq!(rt; Megajoules::new(MOST).err(), None);
+    assert_eq!(rt; Megajoules::new(MOST + 1).err(), Some(Refusal::Energy));
+    assert_eq!(rt; Megajoules::new(u64::MAX).err(), Some(Refusal::Energy));
 }
 
 #[test]
 fn fees(rt: HostRuntime) -> Result<(), Fail> {
-    let largest = nomination(0, MOST)?;
+    let largest = Nomination::try_from((0, MOST))?;
     let mut tariff = Tariff::new(1_000_000)?;
     assert_eq!(rt; tariff.fee(&largest), 1_000_000_000_000_000_000);
-    assert_eq!(rt; tariff.fee(&nomination(1000, 1120)?), 0);
+    assert_eq!(rt; tariff.fee(&Nomination::try_from((1000, 1120))?), 0);
     tariff.set_rate(250)?;
-    assert_eq!(rt; tariff.fee(&nomination(1000, 1121)?), 250);
-    assert_eq!(rt; tariff.fee(&balance(5049, 4948)?), 250);
+    assert_eq!(rt; tariff.fee(&Nomination::try_from((1000, 1121))?), 250);
+    assert_eq!(rt; tariff.fee(&Balance::try_from((5049, 4948))?), 250);
     tariff.set_rate(0)?;
     assert_eq!(rt; tariff.fee(&largest), 0);
     Ok(())
@@ -381,9 +357,5 @@ fn settings_of_a_tariff(rt: HostRuntime) -> Result<(), Fail> {
 
 #[test]
 fn a_tariff_above_the_limit(rt: HostRuntime) {
-    let refused = match Tariff::new(1_000_001) {
-        Ok(_) => None,
-        Err(e) => Some(e),
-    };
-    assert_eq!(rt; refused, Some(Refusal::Energy));
+    assert_eq!(rt; Tariff::new(1_000_001).err(), Some(Refusal::Energy));
 }

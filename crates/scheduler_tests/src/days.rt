@@ -216,14 +216,12 @@ fn ends_of_2000_and_2099(rt: HostRuntime) {
 
 // The litres of a month's days together.
 fn month_sum(litres: u64, year: u16, month: u8) -> Result<u64, Refusal> {
-    let mut sum = 0u64;
-    for day in 1..=31 {
-        let date = Date { year, month, day };
-        if date.is_day() {
-            sum = sum.saturating_add(flat_rate_day(litres, date)?);
-        }
-    }
-    Ok(sum)
+    (1..=31)
+        .map(|day| Date { year, month, day })
+        .filter(|date| date.is_day())
+        .try_fold(0u64, |sum, date| {
+            Ok(sum.saturating_add(flat_rate_day(litres, date)?))
+        })
 }
 
 #[test]
