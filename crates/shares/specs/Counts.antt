@@ -1,7 +1,8 @@
 -- Counts of what passes a test, and where a list of numbers is cut.
-use Rattle.std.specs.Prelude.{◌≡◌, ℕ, zero, suc, ◌+◌, ◌-◌, ◌<◌, ◌≤◌, min, max, Bool, cond, ltb, leb, ◌⊎◌, List, [], ◌∷◌, length, take, count_by, ◌==◌, nat_eq, nat_le, nat_lt, slice_index, slice_index_or, refl}
+use Rattle.std.specs.Prelude.{◌≡◌, ℕ, zero, suc, ◌+◌, ◌-◌, ◌<◌, ◌≤◌, min, max, Bool, cond, ltb, leb, List, [], ◌∷◌, length, take, count_by, ◌==◌, nat_eq, nat_le, nat_lt, slice_index, slice_index_or, refl}
+use Rattle.std.specs.List.{fold}
 use Rattle.std.proofs.Math.Path.{ap}
-use Rattle.std.proofs.Common.{inl, inr, ⊎_elim, arith}
+use Rattle.std.proofs.Common.{⊎_elim, arith}
 use Rattle.std.proofs.lemmas.List.Sums.{sum_by-cons, sum_by-take-le, count_by_more_yes, count_by_more_no}
 use Rattle.std.proofs.lemmas.Bool.{cases_lt, cases_order, le-leb, lt-leb, lt-ltb, le-ltb, eq-eqb, ne_eqb}
 use Rattle.std.proofs.lemmas.Bool.Decides.{nat_tests}
@@ -54,41 +55,59 @@ reach_falls (r ∷ rs) t u h =
     let here : one_if (nat_le u r) ≤ one_if (nat_le t r) = grind (arith, nat_tests) in
     omega (arith, reach_falls rs t u h)
 
--- where none lies from a to below b, none lies from c to below d inside of it
-pub none_inside : (rs : List ℕ) (a b c d : ℕ) → a ≤ c → c ≤ d → d ≤ b → reach rs a ≡ reach rs b → reach rs c ≡ reach rs d
-none_inside rs a b c d p q r e = omega (arith, reach_falls rs a c p, reach_falls rs c d q, reach_falls rs d b r)
+-- the least number from low on, or high where none is below that
+abbrev pub least : List ℕ → ℕ → ℕ → ℕ
+least rs low high = fold (λ m r. cond (leb low r) (min m r) m) high rs
 
--- and one more that lies outside changes nothing
-pub none_more : (rs : List ℕ) (i a b : ℕ) → i < length rs → a ≤ b → (slice_index rs i < a) ⊎ (b ≤ slice_index rs i) → reach (take i rs) a ≡ reach (take i rs) b → reach (take (i + 1) rs) a ≡ reach (take (i + 1) rs) b
-none_more rs i a b in' order where' e =
+pub record Least (rs : List ℕ) (low high m : ℕ) : Type 0 where
+  pub from : low ≤ m
+  pub to : m ≤ high
+  pub same : reach rs m ≡ reach rs low
+
+pub least_is : (rs : List ℕ) (low high : ℕ) → low ≤ high → Least rs low high (least rs low high)
+least_is [] low high h = record { from = h; to = omega arith; same = refl }
+least_is (r ∷ rs) low high h =
     ⊎_elim
-    (λ less.
-    let p = count_by_more_no (λ r. leb a r) rs i 0 in' (lt-leb _ _ less) in
-    let q = count_by_more_no (λ r. leb b r) rs i 0 in' (lt-leb _ _ (omega arith)) in
-    omega arith)
-    (λ more.
-    let p = count_by_more_yes (λ r. leb a r) rs i 0 in' (le-leb _ _ (omega arith)) in
-    let q = count_by_more_yes (λ r. leb b r) rs i 0 in' (le-leb _ _ more) in
-    omega arith)
-    where'
+    (λ (less : r < low).
+    let l = least_is rs low high h in
+    let p = reach_cons r rs (least rs low high) in
+    let q = reach_cons r rs low in
+    let here : one_if (nat_le (least rs low high) r) ≡ one_if (nat_le low r) = grind (arith, nat_tests) in
+    rw (lt-leb low r less) (record { from = l.from; to = l.to; same = omega arith }))
+    (λ (more : low ≤ r).
+    let l = least_is rs low (min high r) (omega arith) in
+    let p = reach_cons r rs (least rs low (min high r)) in
+    let q = reach_cons r rs low in
+    let here : one_if (nat_le (least rs low (min high r)) r) ≡ one_if (nat_le low r) = grind (arith, nat_tests) in
+    rw (le-leb low r more) (record { from = l.from; to = omega arith; same = omega arith }))
+    (cases_lt r low)
 
--- one turn of a pass for the least from low on: m before it, and m' after it
-pub least_more : (rs : List ℕ) (i low high m m' : ℕ) → i < length rs → (low ≤ m) × (m ≤ high) × (reach (take i rs) low ≡ reach (take i rs) m) → ((low ≤ slice_index rs i) × (m' ≡ min m (slice_index rs i))) ⊎ ((slice_index rs i < low) × (m' ≡ m)) → (low ≤ m') × (m' ≤ high) × (reach (take (i + 1) rs) low ≡ reach (take (i + 1) rs) m')
-least_more rs i low high m m' in' inv way =
-    let r = slice_index_or rs i 0 in
-    let from : low ≤ m' = ⊎_elim (λ w. omega arith) (λ w. omega arith) way in
-    let less : m' ≤ m = ⊎_elim (λ w. omega arith) (λ w. omega arith) way in
-    let outside : (r < low) ⊎ (m' ≤ r) = ⊎_elim (λ w. inr (omega arith)) (λ w. inl w.0) way in
-    (from, omega arith, none_more rs i low m' in' from outside (none_inside (take i rs) low m low m' (omega arith) from less inv.2))
+-- the greatest number up to high, or low where none is above that
+abbrev pub greatest : List ℕ → ℕ → ℕ → ℕ
+greatest rs low high = fold (λ m r. cond (leb r high) (max m r) m) low rs
 
--- one turn of a pass for the greatest up to high
-pub greatest_more : (rs : List ℕ) (i low high m m' : ℕ) → i < length rs → (low ≤ m) × (m ≤ high) × (higher (take i rs) m ≡ higher (take i rs) high) → ((slice_index rs i ≤ high) × (m' ≡ max m (slice_index rs i))) ⊎ ((high < slice_index rs i) × (m' ≡ m)) → (low ≤ m') × (m' ≤ high) × (higher (take (i + 1) rs) m' ≡ higher (take (i + 1) rs) high)
-greatest_more rs i low high m m' in' inv way =
-    let r = slice_index_or rs i 0 in
-    let to : m' ≤ high = ⊎_elim (λ w. omega arith) (λ w. omega arith) way in
-    let more : m ≤ m' = ⊎_elim (λ w. omega arith) (λ w. omega arith) way in
-    let outside : (r < suc m') ⊎ (suc high ≤ r) = ⊎_elim (λ w. inl (omega arith)) (λ w. inr w.0) way in
-    (omega arith, to, none_more rs i (suc m') (suc high) in' (omega arith) outside (none_inside (take i rs) (suc m) (suc high) (suc m') (suc high) (omega arith) (omega arith) (omega arith) inv.2))
+pub record Greatest (rs : List ℕ) (low high m : ℕ) : Type 0 where
+  pub from : low ≤ m
+  pub to : m ≤ high
+  pub same : higher rs m ≡ higher rs high
+
+pub greatest_is : (rs : List ℕ) (low high : ℕ) → low ≤ high → Greatest rs low high (greatest rs low high)
+greatest_is [] low high h = record { from = omega arith; to = h; same = refl }
+greatest_is (r ∷ rs) low high h =
+    ⊎_elim
+    (λ (more : high < r).
+    let l = greatest_is rs low high h in
+    let p = higher_cons r rs (greatest rs low high) in
+    let q = higher_cons r rs high in
+    let here : one_if (nat_lt (greatest rs low high) r) ≡ one_if (nat_lt high r) = grind (arith, nat_tests) in
+    rw (lt-leb r high more) (record { from = l.from; to = l.to; same = omega arith }))
+    (λ (less : r ≤ high).
+    let l = greatest_is rs (max low r) high (omega arith) in
+    let p = higher_cons r rs (greatest rs (max low r) high) in
+    let q = higher_cons r rs high in
+    let here : one_if (nat_lt (greatest rs (max low r) high) r) ≡ one_if (nat_lt high r) = grind (arith, nat_tests) in
+    rw (le-leb r high less) (record { from = omega arith; to = l.to; same = omega arith }))
+    (cases_lt high r)
 
 -- l places are cut off at t: no more than l are above it, and no fewer than l reach it
 pub record Cut (rs : List ℕ) (l t : ℕ) : Type 0 where
@@ -146,5 +165,10 @@ module _ (rs : List ℕ) (i : ℕ) (in' : i < length rs) where
         rw (lt-ltb (ahead rs i) l a) (omega arith)))
         (cases_order (slice_index rs i) t)
 
-pub cut_exact : (rs : List ℕ) (l t n : ℕ) → n ≡ higher rs t → n ≡ l → Cut rs l t
-cut_exact rs l t n e h = record { few = omega arith; enough = omega (arith, reach_split rs t) }
+-- l places are cut off: all those above t, and m of those at t
+pub record IsCut (rs : List ℕ) (l t m : ℕ) : Type 0 where
+  pub counted : higher rs t + m ≡ l
+  pub enough : l ≤ reach rs t
+
+pub cut_exact : (rs : List ℕ) (l t : ℕ) → l ≡ higher rs t → IsCut rs l t 0
+cut_exact rs l t e = record { counted = omega arith; enough = omega (arith, reach_split rs t) }

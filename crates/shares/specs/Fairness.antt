@@ -1,10 +1,12 @@
 -- What `fair` says, part by part.
-use Rattle.std.specs.Prelude.{◌≡◌, ℕ, ◌+◌, ◌*◌, ◌<◌, ◌≤◌, true, cond, ltb, List, [], ◌∷◌, length, sum, count_by, nat_lt, slice_index}
-use Rattle.std.proofs.Common.{arith}
-use Rattle.std.proofs.lemmas.List.Sums.{sum_by-cons, sum_by-take-le, count_by_more_yes}
-use Rattle.std.proofs.lemmas.Bool.{lt-ltb}
+use Rattle.std.specs.Prelude.{◌≡◌, ℕ, ◌*◌, ◌/◌, ◌^◌, ◌<◌, ◌≤◌, true, false, not, cond, ltb, ◌==◌, ◌⊎◌, List, [], ◌∷◌, length, sum, count_by, nat_lt, refl}
+use Rattle.std.specs.List.{list_any}
+use Rattle.std.proofs.Common.{⊎_elim, arith}
+use Rattle.std.proofs.Math.Nat.{div-le_of_le-mul}
+use Rattle.std.proofs.lemmas.Nat.{mul-le}
+use Rattle.std.proofs.lemmas.List.Sums.{sum_by-cons}
 use Rattle.std.proofs.lemmas.Bool.Decides.{nat_tests}
-use Rattle.shares.specs.Fair.{max_quantity, max_weights, max_weight, fair}
+use Rattle.shares.specs.Fair.{max_quantity, max_weights, max_weight, max_total, fair}
 
 -- how many weights are past the limit
 abbrev pub over : List ℕ → ℕ
@@ -34,22 +36,43 @@ total_limit (w ∷ ws) h =
     let here : w ≤ max_weight = grind (arith, nat_tests) in
     omega (arith, total_limit ws rest)
 
-pub too_much : (a : ℕ) (ws : List ℕ) → max_quantity < a → 0 ≡ cond (fair a ws) (sum ws) 0
-unfolding fair
-too_much a ws h = grind (arith, nat_tests)
-
-pub too_many : (a : ℕ) (ws : List ℕ) → max_weights < length ws → 0 ≡ cond (fair a ws) (sum ws) 0
-unfolding fair
-too_many a ws h = grind (arith, nat_tests)
-
-pub too_heavy : (a : ℕ) (ws : List ℕ) (i : ℕ) → i < length ws → max_weight < slice_index ws i → 0 ≡ cond (fair a ws) (sum ws) 0
-unfolding fair
-too_heavy a ws i in' h =
-    let more = count_by_more_yes (λ w. ltb max_weight w) ws i 0 in' (lt-ltb _ _ h) in
-    let le = sum_by-take-le (λ x. cond (nat_lt max_weight x) 1 0) ws (i + 1) in
-    let some : 0 < over ws = omega arith in
+-- whether a weight is past the limit, as a test of the list
+pub over_any : (ws : List ℕ) → over ws == 0 ≡ not (list_any (λ w. ltb max_weight w) ws)
+over_any [] = refl
+over_any (w ∷ ws) =
+    let t = sum_by-cons (λ x. cond (nat_lt max_weight x) 1 0) w ws in
+    let rest = over_any ws in
     grind (arith, nat_tests)
 
-pub all_well : (a : ℕ) (ws : List ℕ) → a ≤ max_quantity → length ws ≤ max_weights → over ws ≡ 0 → sum ws ≡ cond (fair a ws) (sum ws) 0
+pub too_much : (a : ℕ) (ws : List ℕ) → (max_quantity < a) ⊎ (max_weights < length ws) → fair a ws ≡ false
 unfolding fair
-all_well a ws p q r = grind (arith, nat_tests)
+too_much a ws h = ⊎_elim (λ p. grind (arith, nat_tests)) (λ p. grind (arith, nat_tests)) h
+
+pub too_heavy : (a : ℕ) (ws : List ℕ) → list_any (λ w. ltb max_weight w) ws ≡ true → fair a ws ≡ false
+unfolding fair
+too_heavy a ws h = let e = over_any ws in grind (arith, nat_tests)
+
+pub weightless : (a : ℕ) (ws : List ℕ) → sum ws ≡ 0 → fair a ws ≡ false
+unfolding fair
+weightless a ws h = grind (arith, nat_tests)
+
+pub all_well : (a : ℕ) (ws : List ℕ) → a ≤ max_quantity → length ws ≤ max_weights → list_any (λ w. ltb max_weight w) ws ≡ false → 0 < sum ws → fair a ws ≡ true
+unfolding fair
+all_well a ws p q h r = let e = over_any ws in grind (arith, nat_tests)
+
+pub product_fits : (a : ℕ) (ws : List ℕ) (w : ℕ) → fair a ws ≡ true → w ≤ sum ws → a * w < 2 ^ 64
+product_fits a ws w y h =
+    let p = parts a ws y in
+    omega (arith, mul-le a w max_quantity max_total p.quantity (omega (arith, p.count, total_limit ws p.weights)))
+
+pub total_fits : (ws : List ℕ) → length ws ≤ max_weights → list_any (λ w. ltb max_weight w) ws ≡ false → sum ws < 2 ^ 64
+total_fits ws h light =
+    let e = over_any ws in
+    let none : over ws ≡ 0 = grind (arith, nat_tests) in
+    omega (arith, total_limit ws none)
+
+pub quotient_most : (a : ℕ) (ws : List ℕ) (w : ℕ) → fair a ws ≡ true → w ≤ sum ws → a * w / sum ws ≤ max_quantity
+quotient_most a ws w y h =
+    let p = parts a ws y in
+    let m : a * w ≤ sum ws * max_quantity = omega (arith, mul-le a w max_quantity (sum ws) p.quantity h) in
+    div-le_of_le-mul (sum ws) m

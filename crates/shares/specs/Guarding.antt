@@ -1,20 +1,9 @@
 -- What a guarded rule gives and writes.
-use Rattle.std.specs.Prelude.{◌≡◌, ℕ, ◌<◌, true, false, cond, ◌⊎◌, List, length, sum, ◌==◌, ◌≢◌, slice_index, refl}
-use Rattle.std.proofs.Common.{sym, ap, subst, ◌∙◌, ⊎_elim, arith}
+use Rattle.std.specs.Prelude.{◌≡◌, ℕ, ◌<◌, true, false, List, length, sum, slice_index}
+use Rattle.std.proofs.Common.{sym, ap, subst, ◌∙◌}
 use Rattle.std.proofs.lemmas.List.{length-replicate, get_or-replicate}
-use Rattle.std.proofs.lemmas.Bool.{cond-true, cond-false, cond_both, cases_Bool, eqb-true, eq-eqb}
-use Rattle.shares.specs.Fair.{fair, zeros, guarded, written, Near}
-use Rattle.shares.specs.Fairness.{parts}
-
--- what a total other than 0 says
-pub shared : (a : ℕ) (ws : List ℕ) (t : ℕ) → t ≡ cond (fair a ws) (sum ws) 0 → (t ≢ 0) → (fair a ws ≡ true) × (t ≡ sum ws)
-shared a ws t e some =
-    ⊎_elim (λ y. (y, e ∙ cond-true _ _ _ y)) (λ n. absurd (some (e ∙ cond-false _ _ _ n))) (cases_Bool (fair a ws))
-
--- what a total of 0 says
-pub not_shared : (a : ℕ) (ws : List ℕ) (t : ℕ) → t ≡ cond (fair a ws) (sum ws) 0 → t ≡ 0 → fair a ws ≡ false
-not_shared a ws t e none =
-    ⊎_elim (λ y. let p = parts a ws y in let z = e ∙ cond-true _ _ _ y in absurd (omega (arith, p.some))) (λ n. n) (cases_Bool (fair a ws))
+use Rattle.std.proofs.lemmas.Bool.{cond-true, cond-false, cond_both}
+use Rattle.shares.specs.Fair.{fair, zeros, guarded, Near}
 
 module _ (rule : ℕ → List ℕ → List ℕ) where
   pub when_fair : (a : ℕ) (ws : List ℕ) → fair a ws ≡ true → guarded rule a ws ≡ rule a ws
@@ -34,14 +23,3 @@ module _ (rule : ℕ → List ℕ → List ℕ) where
 
   pub guarded_idle : ((a : ℕ) (ws : List ℕ) (i : ℕ) → fair a ws ≡ true → i < length ws → slice_index ws i ≡ 0 → slice_index (rule a ws) i ≡ 0) → (a : ℕ) (ws : List ℕ) (i : ℕ) → i < length ws → slice_index ws i ≡ 0 → slice_index (guarded rule a ws) i ≡ 0
   guarded_idle h a ws i in' z = cond_both (fair a ws) _ _ (λ l. slice_index l i ≡ 0) (λ y. h a ws i y in' z) (λ _. get_or-replicate (length ws) i 0 0 in')
-
-  -- the refusals
-  pub wrote_none : (a : ℕ) (ws : List ℕ) (n t : ℕ) → t ≡ cond (fair a ws) (sum ws) 0 → (t ≡ 0) ⊎ (length ws ≢ n) → zeros n ≡ written (guarded rule a ws) ws n
-  wrote_none a ws n t e why =
-      cond_both (length ws == n) _ _ (λ l. zeros n ≡ l)
-      (λ y. let same = eqb-true (length ws) n y in ⊎_elim (λ z. ap zeros (sym same) ∙ sym (when_not a ws (not_shared a ws t e z))) (λ ne. absurd (ne same)) why)
-      (λ _. refl)
-
-  -- the shares themselves
-  pub wrote : (a : ℕ) (ws : List ℕ) (n : ℕ) (l : List ℕ) → fair a ws ≡ true → length ws ≡ n → l ≡ rule a ws → l ≡ written (guarded rule a ws) ws n
-  wrote a ws n l y same is = is ∙ sym (when_fair a ws y) ∙ sym (cond-true _ _ _ (eq-eqb _ _ same))

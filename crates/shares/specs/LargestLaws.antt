@@ -1,21 +1,21 @@
 -- The laws of the largest remainders.
 use Rattle.std.specs.Prelude.{◌≡◌, ℕ, zero, suc, ◌+◌, ◌-◌, ◌*◌, ◌/◌, ◌%◌, ◌^◌, ◌<◌, ◌≤◌, min, true, ltb, List, [], ◌∷◌, map, length, take, sum, nat_eq, nat_lt, slice_index, slice_index_or, slice_set, refl}
 use Rattle.std.proofs.Math.Path.{sym, ap, subst}
-use Rattle.std.proofs.Common.{◌∙◌, mul-add, mul-one, div-le_self, add-one, take_all}
+use Rattle.std.proofs.Common.{◌∙◌, mul-add, mul-one, add-one, take_all}
 use Rattle.std.proofs.Math.Logic.{⊎_elim}
 use Rattle.std.proofs.Math.Nat.{add-zero, add-mul, mul-zero, zero-mod, zero-div, mul_comm, mod-lt, mul-lt-mul_of_pos_left}
 use native.Mathlib.Omega.{arith}
 use Rattle.std.specs.List.{range_with_len}
-use Rattle.std.proofs.lemmas.Nat.{div-add-mod', mul-le}
+use Rattle.std.proofs.lemmas.Nat.{div-add-mod'}
 use Rattle.std.proofs.lemmas.List.{length-map, get_or-map, ext_get_or, get_or-set_other}
 use Rattle.std.proofs.lemmas.List.Edits.{fill_by_more}
 use Rattle.std.proofs.lemmas.List.Sums.{sum_by-cons, sum_by_more, sum_by-take-le, count_by-le-length, count_by_more_yes, count_by_more_no}
 use Rattle.std.proofs.lemmas.Bool.{cases_lt, le-ltb, lt-ltb, eq-eqb, ne_eqb}
 use Rattle.std.proofs.lemmas.List.FromFn.{fill_by_all, length-map-range_with_len, get_or-map-range_with_len, sum_by-map-range_with_len_more}
-use Rattle.shares.specs.Fair.{max_quantity, max_weights, max_weight, max_total, fair, Near}
+use Rattle.shares.specs.Fair.{max_weights, max_total, fair, Near}
 use Rattle.shares.specs.Rules.{floors, remainders, left, ahead, largest_share, largest}
-use Rattle.shares.specs.Fairness.{over, parts, total_limit}
-use Rattle.shares.specs.Counts.{one_if, higher, reach, level, Cut, cut_below, reach_split, served, over_cut, under_cut, at_cut}
+use Rattle.shares.specs.Fairness.{parts, total_limit}
+use Rattle.shares.specs.Counts.{one_if, higher, level, IsCut, Cut, cut_below, reach_split, served, over_cut, under_cut, at_cut}
 
 module _ (a s : ℕ) (some : 0 < s) where
   abbrev fs : List ℕ → List ℕ
@@ -189,36 +189,19 @@ largest_near a ws i h in' = rw (largest_at a ws i in') (share_near a ws (parts a
 pub largest_idle : (a : ℕ) (ws : List ℕ) (i : ℕ) → fair a ws ≡ true → i < length ws → slice_index ws i ≡ 0 → slice_index (largest a ws) i ≡ 0
 largest_idle a ws i h in' z = largest_at a ws i in' ∙ share_idle a ws (parts a ws h).some i in' z
 
--- one turn of `part`, at total t with g given so far
-pub record Parted (a : ℕ) (ws : List ℕ) (i g t : ℕ) : Type 0 where
-  pub product_fits : a * slice_index ws i < 2 ^ 64
-  pub given_fits : g + a * slice_index ws i / t < 2 ^ 64
-  pub given_next : g + a * slice_index ws i / t ≡ sum (take (i + 1) (floors a ws))
-  pub remainder : a * slice_index ws i % t ≡ slice_index (remainders a ws) i
+-- one turn of `part`, with g given so far and x the place's floor
+pub record Parted (a : ℕ) (ws : List ℕ) (i g x : ℕ) : Type 0 where
+  pub fits : g + x < 2 ^ 64
+  pub next : g + x ≡ sum (take (i + 1) (floors a ws))
 
-weight_limit : (ws : List ℕ) (i : ℕ) → over ws ≡ 0 → i < length ws → slice_index ws i ≤ max_weight
-weight_limit ws i none in' =
-    ⊎_elim
-    (λ h. let m = count_by_more_yes (λ w. ltb max_weight w) ws i 0 in' (lt-ltb _ _ h) in absurd (omega (arith, sum_by-take-le (λ x. one_if (nat_lt max_weight x)) ws (i + 1))))
-    (λ h. h)
-    (cases_lt max_weight (slice_index ws i))
-
-product_limit : (a : ℕ) (ws : List ℕ) (i : ℕ) → fair a ws ≡ true → i < length ws → a * slice_index ws i < 2 ^ 63
-product_limit a ws i y in' =
+pub parted : (a : ℕ) (ws : List ℕ) (i g x : ℕ) → fair a ws ≡ true → i < length ws → g ≡ sum (take i (floors a ws)) → x ≡ a * slice_index ws i / sum ws → Parted a ws i g x
+parted a ws i g x y in' given is =
     let p = parts a ws y in
-    omega (arith, mul-le a (slice_index ws i) max_quantity max_weight p.quantity (weight_limit ws i p.weights in'))
-
-pub parted : (a : ℕ) (ws : List ℕ) (i g t : ℕ) → fair a ws ≡ true → t ≡ sum ws → i < length ws → g ≡ sum (take i (floors a ws)) → Parted a ws i g t
-parted a ws i g t y total in' given =
-    let p = parts a ws y in
-    let f = floor_at a ws i in' in
-    let same : a * slice_index ws i / t ≡ slice_index_or (floors a ws) i 0 = ap (λ x. a * slice_index ws i / x) total ∙ sym f in
-    let next : g + a * slice_index ws i / t ≡ sum (take (i + 1) (floors a ws)) = omega (arith, sum_by_more (λ x. x) (floors a ws) i 0 (omega (arith, length-floors a ws))) in
+    let same : x ≡ slice_index_or (floors a ws) i 0 = is ∙ sym (floor_at a ws i in') in
+    let next : g + x ≡ sum (take (i + 1) (floors a ws)) = omega (arith, sum_by_more (λ x. x) (floors a ws) i 0 (omega (arith, length-floors a ws))) in
     record {
-      product_fits = omega (arith, product_limit a ws i y in');
-      given_fits = omega (arith, p.quantity, floors_within a ws p.some, sum_by-take-le (λ x. x) (floors a ws) (i + 1));
-      given_next = next;
-      remainder = ap (λ x. a * slice_index ws i % x) total ∙ sym (remainder_at a ws i in');
+      fits = omega (arith, p.quantity, floors_within a ws p.some, sum_by-take-le (λ x. x) (floors a ws) (i + 1));
+      next = next;
     }
 
 pub parted_all : (a : ℕ) (ws out : List ℕ) → length ws ≡ length out → ((k : ℕ) → k < length ws → slice_index out k ≡ slice_index (remainders a ws) k) → out ≡ remainders a ws
@@ -231,46 +214,49 @@ given_all a ws n g y le e =
     let all = ap sum (take_all n (floors a ws) (omega (arith, length-floors a ws))) in
     (omega arith, omega arith)
 
--- one turn of `hand_out`, cut at t, with m more to give at t
-pub record Handed (a : ℕ) (ws : List ℕ) (i s t m : ℕ) : Type 0 where
-  pub product_fits : a * slice_index ws i < 2 ^ 64
-  pub floor_fits : a * slice_index ws i / s + 1 < 2 ^ 64
-  pub over_gets : t < slice_index (remainders a ws) i → a * slice_index ws i / s + 1 ≡ largest_share a ws i
-  pub over_more : t < slice_index (remainders a ws) i → m ≡ left a ws - higher (remainders a ws) t - level (take (i + 1) (remainders a ws)) t
-  pub at_gets : slice_index_or (remainders a ws) i 0 ≡ t → 0 < m → a * slice_index ws i / s + 1 ≡ largest_share a ws i
-  pub at_more : slice_index_or (remainders a ws) i 0 ≡ t → 0 < m → m - 1 ≡ left a ws - higher (remainders a ws) t - level (take (i + 1) (remainders a ws)) t
-  pub at_none : slice_index_or (remainders a ws) i 0 ≡ t → m ≡ 0 → a * slice_index ws i / s ≡ largest_share a ws i
-  pub at_empty : slice_index_or (remainders a ws) i 0 ≡ t → m ≡ 0 → m ≡ left a ws - higher (remainders a ws) t - level (take (i + 1) (remainders a ws)) t
-  pub under_none : slice_index_or (remainders a ws) i 0 < t → a * slice_index ws i / s ≡ largest_share a ws i
-  pub under_more : slice_index_or (remainders a ws) i 0 < t → m ≡ left a ws - higher (remainders a ws) t - level (take (i + 1) (remainders a ws)) t
-
-gets : (a : ℕ) (ws : List ℕ) (i s : ℕ) → s ≡ sum ws → i < length ws → ahead (remainders a ws) i < left a ws → a * slice_index ws i / s + 1 ≡ largest_share a ws i
+gets : (a : ℕ) (ws : List ℕ) (i x : ℕ) → i < length ws → x ≡ a * slice_index ws i / sum ws → ahead (remainders a ws) i < left a ws → x + 1 ≡ largest_share a ws i
 unfolding largest_share
-gets a ws i s e in' h = rw (lt-ltb (ahead (remainders a ws) i) (left a ws) h) (ap (λ x. x + 1) (ap (λ x. a * slice_index ws i / x) e ∙ sym (floor_at a ws i in')))
+gets a ws i x in' is h = rw (lt-ltb (ahead (remainders a ws) i) (left a ws) h) (ap (λ x. x + 1) (is ∙ sym (floor_at a ws i in')))
 
-gets_none : (a : ℕ) (ws : List ℕ) (i s : ℕ) → s ≡ sum ws → i < length ws → left a ws ≤ ahead (remainders a ws) i → a * slice_index ws i / s ≡ largest_share a ws i
+gets_none : (a : ℕ) (ws : List ℕ) (i x : ℕ) → i < length ws → x ≡ a * slice_index ws i / sum ws → left a ws ≤ ahead (remainders a ws) i → x + 0 ≡ largest_share a ws i
 unfolding largest_share
-gets_none a ws i s e in' h = rw (le-ltb (ahead (remainders a ws) i) (left a ws) h, add-zero (slice_index (floors a ws) i)) (ap (λ x. a * slice_index ws i / x) e ∙ sym (floor_at a ws i in'))
+gets_none a ws i x in' is h = rw (le-ltb (ahead (remainders a ws) i) (left a ws) h) (ap (λ x. x + 0) (is ∙ sym (floor_at a ws i in')))
 
-pub handed : (a : ℕ) (ws : List ℕ) (i s t m : ℕ) → fair a ws ≡ true → s ≡ sum ws → i < length ws → higher (remainders a ws) t ≤ left a ws → left a ws ≤ reach (remainders a ws) t → m ≡ left a ws - higher (remainders a ws) t - level (take i (remainders a ws)) t → Handed a ws i s t m
-handed a ws i s t m y total in' few enough more =
-    let rs = remainders a ws in
-    let inside : i < length rs = omega (arith, length-remainders a ws) in
-    let cut : Cut rs (left a ws) t = record { few = few; enough = enough } in
-    let small = product_limit a ws i y in' in
-    let less : a * slice_index ws i / s ≤ a * slice_index_or ws i 0 = div-le_self (a * slice_index ws i) s in
-    record {
-      product_fits = omega arith;
-      floor_fits = omega arith;
-      over_gets = λ h. gets a ws i s total in' (over_cut rs i inside (left a ws) t cut h);
-      over_more = λ h. omega (arith, count_by_more_no (λ r. nat_eq r t) rs i 0 inside (ne_eqb _ _ (omega arith)));
-      at_gets = λ e h. gets a ws i s total in' (omega (arith, at_cut rs i inside (left a ws) t cut e));
-      at_more = λ e h. omega (arith, count_by_more_yes (λ r. nat_eq r t) rs i 0 inside (eq-eqb _ _ e));
-      at_none = λ e h. gets_none a ws i s total in' (omega (arith, at_cut rs i inside (left a ws) t cut e));
-      at_empty = λ e h. omega (arith, count_by_more_yes (λ r. nat_eq r t) rs i 0 inside (eq-eqb _ _ e));
-      under_none = λ h. gets_none a ws i s total in' (under_cut rs i inside (left a ws) t cut h);
-      under_more = λ h. omega (arith, count_by_more_no (λ r. nat_eq r t) rs i 0 inside (ne_eqb _ _ (omega arith)));
-    }
+-- a place's turn in `hand_out`, cut at t, with x its floor: it gets e litres more, and m are left to give at t
+pub record Handed (a : ℕ) (ws : List ℕ) (i x t e m : ℕ) : Type 0 where
+  pub share : x + e ≡ largest_share a ws i
+  pub more : m ≡ left a ws - higher (remainders a ws) t - level (take (i + 1) (remainders a ws)) t
+
+module _ (a : ℕ) (ws : List ℕ) (i x t n m : ℕ) (in' : i < length ws) (is : x ≡ a * slice_index ws i / sum ws) (at : IsCut (remainders a ws) (left a ws) t n) (more : m ≡ left a ws - higher (remainders a ws) t - level (take i (remainders a ws)) t) where
+  cut : Cut (remainders a ws) (left a ws) t
+  cut = record { few = omega (arith, at.counted); enough = at.enough }
+
+  inside : i < length (remainders a ws)
+  inside = omega (arith, length-remainders a ws)
+
+  pub handed_over : t < slice_index (remainders a ws) i → Handed a ws i x t 1 m
+  handed_over h = record {
+    share = gets a ws i x in' is (over_cut (remainders a ws) i inside (left a ws) t cut h);
+    more = omega (arith, count_by_more_no (λ r. nat_eq r t) (remainders a ws) i 0 inside (ne_eqb _ _ (omega arith)));
+  }
+
+  pub handed_at : slice_index_or (remainders a ws) i 0 ≡ t → 0 < m → Handed a ws i x t 1 (m - 1)
+  handed_at e h = record {
+    share = gets a ws i x in' is (omega (arith, at_cut (remainders a ws) i inside (left a ws) t cut e));
+    more = omega (arith, count_by_more_yes (λ r. nat_eq r t) (remainders a ws) i 0 inside (eq-eqb _ _ e));
+  }
+
+  pub handed_none : slice_index_or (remainders a ws) i 0 ≡ t → m ≡ 0 → Handed a ws i x t 0 m
+  handed_none e h = record {
+    share = gets_none a ws i x in' is (omega (arith, at_cut (remainders a ws) i inside (left a ws) t cut e));
+    more = omega (arith, count_by_more_yes (λ r. nat_eq r t) (remainders a ws) i 0 inside (eq-eqb _ _ e));
+  }
+
+  pub handed_under : slice_index_or (remainders a ws) i 0 < t → Handed a ws i x t 0 m
+  handed_under h = record {
+    share = gets_none a ws i x in' is (under_cut (remainders a ws) i inside (left a ws) t cut h);
+    more = omega (arith, count_by_more_no (λ r. nat_eq r t) (remainders a ws) i 0 inside (ne_eqb _ _ (omega arith)));
+  }
 
 pub handed_all : (a : ℕ) (ws out : List ℕ) → length ws ≡ length out → ((k : ℕ) → k < length ws → slice_index out k ≡ largest_share a ws k) → out ≡ largest a ws
 unfolding largest
@@ -282,22 +268,22 @@ pub record Sofar (a : ℕ) (ws : List ℕ) (t i m : ℕ) (out : List ℕ) : Type
   pub done : (k : ℕ) → k < i → slice_index out k ≡ largest_share a ws k
   pub still : (k : ℕ) → i ≤ k → slice_index out k ≡ slice_index (remainders a ws) k
 
-pub sofar_none : (a : ℕ) (ws : List ℕ) (t m : ℕ) (out : List ℕ) → m ≡ left a ws - higher (remainders a ws) t → out ≡ remainders a ws → Sofar a ws t 0 m out
-sofar_none a ws t m out e o = record { rest = omega arith; done = λ k h. absurd (omega arith); still = λ k h. ap (λ l. slice_index l k) o }
+pub sofar_none : (a : ℕ) (ws : List ℕ) (t m : ℕ) (out : List ℕ) → IsCut (remainders a ws) (left a ws) t m → out ≡ remainders a ws → Sofar a ws t 0 m out
+sofar_none a ws t m out cut o = record { rest = omega (arith, cut.counted); done = λ k h. absurd (omega arith); still = λ k h. ap (λ l. slice_index l k) o }
 
-pub sofar_more : (a : ℕ) (ws : List ℕ) (t i m n x : ℕ) (out new : List ℕ) → i < length out → Sofar a ws t i m out → new ≡ slice_set out i x → x ≡ largest_share a ws i → n ≡ left a ws - higher (remainders a ws) t - level (take (i + 1) (remainders a ws)) t → Sofar a ws t (i + 1) n new
-sofar_more a ws t i m n x out new in' h is share rest = record {
-  rest = rest;
-  done = rw (is, share) (fill_by_more (largest_share a ws) out i 0 in' h.done);
-  still = λ k le. rw is (get_or-set_other out i k x 0 (omega arith) ∙ h.still k (omega arith));
+pub sofar_more : (a : ℕ) (ws : List ℕ) (t i m n x e : ℕ) (out new : List ℕ) → i < length out → Sofar a ws t i m out → new ≡ slice_set out i (x + e) → Handed a ws i x t e n → Sofar a ws t (i + 1) n new
+sofar_more a ws t i m n x e out new in' h is turn = record {
+  rest = turn.more;
+  done = rw (is, turn.share) (fill_by_more (largest_share a ws) out i 0 in' h.done);
+  still = λ k le. rw is (get_or-set_other out i k (x + e) 0 (omega arith) ∙ h.still k (omega arith));
 }
 
--- what finding the cut asks
+-- what is known of the cut before it is sought
 pub record Cuttable (t l : ℕ) (out : List ℕ) : Type 0 where
   pub places : length out ≤ max_weights
   pub limit : t ≤ max_total
+  pub none : 0 ≡ higher out t
   pub most : l ≤ length out
-  pub high : higher out t ≡ 0
 
 pub cuttable : (a : ℕ) (ws : List ℕ) (t l : ℕ) (out : List ℕ) → fair a ws ≡ true → t ≡ sum ws → out ≡ remainders a ws → l ≡ left a ws → Cuttable t l out
 cuttable a ws t l out y total o e =
@@ -306,6 +292,6 @@ cuttable a ws t l out y total o e =
     record {
       places = omega (arith, p.count);
       limit = omega (arith, p.count, total_limit ws p.weights);
+      none = sym (rw (o, total) (none_over a ws p.some));
       most = omega (arith, left_within a ws p.some);
-      high = rw (o, total) (none_over a ws p.some);
     }

@@ -1,16 +1,15 @@
 -- The laws of the running rule.
-use Rattle.std.specs.Prelude.{◌≡◌, ℕ, zero, suc, ◌+◌, ◌-◌, ◌*◌, ◌/◌, ◌^◌, ◌<◌, ◌≤◌, true, cond, List, map, length, take, sum, ◌≢◌, slice_index}
+use Rattle.std.specs.Prelude.{◌≡◌, ℕ, zero, suc, ◌+◌, ◌-◌, ◌*◌, ◌/◌, ◌<◌, ◌≤◌, true, List, map, length, take, sum, slice_index}
 use Rattle.std.proofs.Math.Path.{sym, ap, subst}
 use Rattle.std.proofs.Common.{◌∙◌, mul-add, add-mul, mul-zero, mod-lt, add-one, arith, take_all}
 use Rattle.std.proofs.Math.Nat.{zero-div, mul-div_cancel}
 use Rattle.std.specs.List.{range_with_len}
-use Rattle.std.proofs.lemmas.Nat.{mul-le, div-add-mod', le-div}
-use Rattle.std.proofs.lemmas.List.Sums.{sum_by_more, sum_by-take-le}
+use Rattle.std.proofs.lemmas.Nat.{div-add-mod', le-div}
+use Rattle.std.proofs.lemmas.List.Sums.{sum_by_more}
 use Rattle.std.proofs.lemmas.List.FromFn.{fill_by_all, length-map-range_with_len, get_or-map-range_with_len, sum_by-map-range_with_len_more}
-use Rattle.shares.specs.Fair.{max_quantity, max_total, fair, Near}
+use Rattle.shares.specs.Fair.{fair, Near}
 use Rattle.shares.specs.Rules.{upto, running_share, running}
-use Rattle.shares.specs.Guarding.{shared}
-use Rattle.shares.specs.Fairness.{parts, total_limit}
+use Rattle.shares.specs.Fairness.{parts}
 
 -- the quotients by s of x and of z more
 pub record Gap (s x z : ℕ) : Type 0 where
@@ -87,31 +86,22 @@ running_near a ws i h in' = rw (running_at a ws i in') (share_near a ws (parts a
 pub running_idle : (a : ℕ) (ws : List ℕ) (i : ℕ) → fair a ws ≡ true → i < length ws → slice_index ws i ≡ 0 → slice_index (running a ws) i ≡ 0
 running_idle a ws i h in' z = running_at a ws i in' ∙ share_idle a ws i in' z
 
--- one turn of the loop: s and g are the sum and the litres given so far, and t is the total
-pub record Turn (a : ℕ) (ws : List ℕ) (i s g t : ℕ) : Type 0 where
-  pub sum_fits : s + slice_index ws i < 2 ^ 64
-  pub product_fits : a * (s + slice_index ws i) < 2 ^ 64
+-- one turn of the loop: s and g are the sum and the litres given so far, and x is what is given with place i
+pub record Turn (a : ℕ) (ws : List ℕ) (i s g x : ℕ) : Type 0 where
   pub sum_next : s + slice_index ws i ≡ sum (take (i + 1) ws)
-  pub given_next : a * (s + slice_index ws i) / t ≡ upto a ws (i + 1)
-  pub rises : g ≤ a * (s + slice_index ws i) / t
-  pub share : a * (s + slice_index ws i) / t - g ≡ running_share a ws i
+  pub given_next : x ≡ upto a ws (i + 1)
+  pub rises : g ≤ x
+  pub share : x - g ≡ running_share a ws i
 
-pub turn : (a : ℕ) (ws : List ℕ) (i s g t : ℕ) → t ≡ cond (fair a ws) (sum ws) 0 → (t ≢ 0) → i < length ws → s ≡ sum (take i ws) → g ≡ upto a ws i → Turn a ws i s g t
+pub turn : (a : ℕ) (ws : List ℕ) (i s g x : ℕ) → fair a ws ≡ true → i < length ws → s ≡ sum (take i ws) → g ≡ upto a ws i → x ≡ a * (s + slice_index ws i) / sum ws → Turn a ws i s g x
 unfolding upto running_share
-turn a ws i s g t e some in' so_far given =
-    let y = (shared a ws t e some).0 in
-    let total = (shared a ws t e some).1 in
-    let p = parts a ws y in
+turn a ws i s g x y in' so_far given is =
     let next : s + slice_index ws i ≡ sum (take (i + 1) ws) = omega (arith, sum_by_more (λ x. x) ws i 0 in') in
-    let low : s + slice_index ws i ≤ max_total = omega (arith, p.count, total_limit ws p.weights, sum_by-take-le (λ x. x) ws (i + 1)) in
-    let high = mul-le a (s + slice_index ws i) max_quantity max_total p.quantity low in
-    let new : a * (s + slice_index ws i) / t ≡ upto a ws (i + 1) = ap (λ x. a * x / t) next ∙ ap (λ x. a * sum (take (i + 1) ws) / x) total in
+    let new : x ≡ upto a ws (i + 1) = is ∙ ap (λ x. a * x / sum ws) next in
     record {
-      sum_fits = omega arith;
-      product_fits = omega arith;
       sum_next = next;
       given_next = new;
-      rises = omega (arith, upto_rises a ws p.some i in');
+      rises = omega (arith, upto_rises a ws (parts a ws y).some i in');
       share = ap (λ x. x - g) new ∙ ap (λ x. upto a ws (i + 1) - x) given;
     }
 

@@ -1,15 +1,9 @@
-// What every share rule keeps, and the tests that all of them make first.
-ghost use Rattle.std.specs.Prelude.{◌≡◌, ℕ, ◌<◌, true, false, List, length, if◌then◌else◌, sum, slice_index};
-ghost use Rattle.shares.specs.Fair.{fair, zeros, written, Near};
+// What every share rule keeps.
+ghost use Rattle.std.specs.Prelude.{◌≡◌, ℕ, ◌<◌, true, false, List, length, sum, slice_index};
+ghost use Rattle.shares.specs.Fair.{fair, guarded, zeros, written, Near};
+ghost use Rattle.shares.specs.Guarding.{guarded_places, guarded_whole, guarded_near, guarded_idle, when_not};
 
-// The most litres that are shared at once.
-pub const MAX_QUANTITY: u64 = 1_000_000_000;
-
-// The most weights.
-pub const MAX_WEIGHTS: usize = 4096;
-
-// The largest weight.
-pub const MAX_WEIGHT: u64 = 2_000_000;
+use crate::fair::Fair;
 
 // A share rule depends on the quantity and the weights alone: `shares` says what each place gets.
 pub trait ShareRule {
@@ -35,31 +29,41 @@ pub trait ShareRule {
     ghost refused: { (a : ℕ) (ws : List ℕ) → fair a ws ≡ false → shares a ws ≡ zeros (length ws) };
 }
 
-// The sum of the weights, or 0 where the quantity cannot be shared by them.
-pub(crate) fn fair_total(quantity: u64, weights: &[u64]) -> u64
-    ensures { result ≡ (if fair quantity weights.now then sum weights.now else 0) }
-{
-    if quantity > MAX_QUANTITY {
-        return 0;
-    }
-    if weights.len() > MAX_WEIGHTS {
-        return 0;
-    }
-    let mut total = 0;
-    for w in weights {
-        if *w > MAX_WEIGHT {
-            return 0;
-        }
-        total += *w;
-    }
-    total
+// A rule for what can be shared: it is a share rule once all else gets noughts.
+pub(crate) trait FairRule {
+    ghost rule: { ℕ → List ℕ → List ℕ };
+
+    // Writes the shares over `out`, which has one place for each weight.
+    fn share_fairly(&self, job: &Fair, out: &mut [u64])
+        requires { length job.now.weights.now ≡ length out.old }
+        ensures { out.new ≡ rule job.now.quantity job.now.weights.now };
+
+    ghost places: { (a : ℕ) (ws : List ℕ) → length (rule a ws) ≡ length ws };
+
+    ghost whole: { (a : ℕ) (ws : List ℕ) → fair a ws ≡ true → sum (rule a ws) ≡ a };
+
+    ghost near: { (a : ℕ) (ws : List ℕ) (i : ℕ) → fair a ws ≡ true → i < length ws → Near a (sum ws) (slice_index ws i) (slice_index (rule a ws) i) };
+
+    ghost idle: { (a : ℕ) (ws : List ℕ) (i : ℕ) → fair a ws ≡ true → i < length ws → slice_index ws i ≡ 0 → slice_index (rule a ws) i ≡ 0 };
 }
 
-// Writes 0 into every place.
-pub(crate) fn clear(out: &mut [u64])
-    ensures { out.new ≡ zeros (length out.old) }
-{
-    for x in out.iter_mut() {
-        *x = 0;
+impl<R: FairRule> ShareRule for R {
+    ghost shares = { guarded R.FairRule.rule };
+
+    ghost places = { guarded_places R.FairRule.rule R.FairRule.places };
+
+    ghost whole = { guarded_whole R.FairRule.rule R.FairRule.whole };
+
+    ghost near = { guarded_near R.FairRule.rule R.FairRule.near };
+
+    ghost idle = { guarded_idle R.FairRule.rule R.FairRule.idle };
+
+    ghost refused = { when_not R.FairRule.rule };
+
+    fn share(&self, quantity: u64, weights: &[u64], out: &mut [u64]) {
+        match Fair::new(quantity, weights) {
+            Some(job) if weights.len() == out.len() => self.share_fairly(&job, out),
+            _ => out.fill(0),
+        }
     }
 }

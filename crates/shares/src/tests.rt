@@ -1,6 +1,7 @@
 // Both rules on worked figures, and at each limit and one past it.
+use crate::fair::{MAX_QUANTITY, MAX_WEIGHT};
 use crate::largest::LargestRemainder;
-use crate::rule::{MAX_QUANTITY, MAX_WEIGHT, ShareRule};
+use crate::rule::ShareRule;
 use crate::running::Running;
 
 // Whether the rule gives these shares, over a sheet that held other numbers.

@@ -1,5 +1,9 @@
+use Rattle.std.proofs.Common.{◌≡◌, length}
 use Rattle.shares.specs.LargestLaws.{Sofar}
 use Rattle.shares.proofs.largest.hand_out.Given as goal
 
 abbrev pub invariant-loop-i : goal.invariant-loop-i
-invariant-loop-i l = Sofar l.quantity l.weights l.t l.i l.more l.out
+invariant-loop-i l = record {
+  long : length l.out ≡ length l.job.weights.now;
+  sofar : Sofar l.job.quantity l.job.weights.now l.cut.at l.i l.more l.out;
+}

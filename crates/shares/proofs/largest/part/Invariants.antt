@@ -3,4 +3,7 @@ use Rattle.shares.specs.Rules.{floors, remainders}
 use Rattle.shares.proofs.largest.part.Given as goal
 
 abbrev pub invariant-loop-i : goal.invariant-loop-i
-invariant-loop-i l = (l.given ≡ sum (take l.i (floors l.quantity l.weights))) × ((k : ℕ) → k < l.i → get_or l.out k 0 ≡ get_or (remainders l.quantity l.weights) k 0)
+invariant-loop-i l = record {
+  given : l.given ≡ sum (take l.i (floors l.job.quantity l.job.weights.now));
+  rems : (k : ℕ) → k < l.i → get_or l.out k 0 ≡ get_or (remainders l.job.quantity l.job.weights.now) k 0;
+}

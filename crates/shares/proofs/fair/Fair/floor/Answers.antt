@@ -1,0 +1,12 @@
+use Rattle.std.proofs.Common.{arith}
+use Rattle.shares.specs.Fairness.{product_fits, parts, quotient_most}
+use Rattle.shares.proofs.fair.Fair.floor.Goals as goal
+
+pub overflow_mul-result : goal.overflow_mul-result
+overflow_mul-result c = record { fits = product_fits _ _ _ c.args.self.now.fairly c.requires }
+
+pub nonzero_div-result : goal.nonzero_div-result
+nonzero_div-result c = omega (arith, c.args.self.now.whole, (parts _ _ c.args.self.now.fairly).some)
+
+pub returns-clause-most : goal.returns-clause-most
+returns-clause-most c = rw c.args.self.now.whole (quotient_most _ _ _ c.args.self.now.fairly c.requires)

@@ -1,0 +1,36 @@
+use Rattle.std.proofs.Common.{◌≡◌, ◌<◌, ◌^◌, sum, ltb, sym, ◌∙◌, inl, inr, ⊎_elim, arith, rules, tests}
+use Rattle.std.specs.List.{list_any}
+use Rattle.std.proofs.lemmas.Iterator.{YieldsList-from_slice}
+use Rattle.std.proofs.lemmas.Iterator.Search.{any_from_yields_List}
+use Rattle.std.proofs.iter.runs.Made.{chains}
+use Rattle.shares.specs.Fair.{max_weight}
+use Rattle.shares.specs.Fairness.{too_much, too_heavy, weightless, all_well, total_fits}
+use Rattle.shares.proofs.fair.Fair.new.Goals as goal
+use Rattle.shares.proofs.fair.Fair.new.Goals.{After-any}
+
+heavy : (c : After-any) → list_any (λ w. ltb max_weight w) c.args.weights.now ≡ c.any.result
+heavy c = sym (any_from_yields_List (λ w. ltb max_weight w) _ _ c.any.result c.any.ensures.ran (YieldsList-from_slice c.args.weights.now cc) (λ x b q k. search (rules, tests)))
+
+pub returns-then-quantity-gt-MAX_QUANTITY-clause-none : goal.returns-then-quantity-gt-MAX_QUANTITY-clause-none
+returns-then-quantity-gt-MAX_QUANTITY-clause-none c =
+    too_much _ _ (⊎_elim inl (λ h. inr h.1) c.then-quantity-gt-MAX_QUANTITY.either)
+
+pub returns-then-any-clause-none : goal.returns-then-any-clause-none
+returns-then-any-clause-none c =
+    too_heavy c.args.quantity c.args.weights.now (heavy (goal.at.returns-then-any-clause-none c).After-any ∙ c.if-any.true)
+
+pub sum-total-requires-clause-fits : goal.sum-total-requires-clause-fits
+sum-total-requires-clause-fits c =
+    let small : sum c.args.weights.now < 2 ^ 64 = total_fits c.args.weights.now (omega arith) (heavy (goal.at.sum-total-requires-clause-fits c).After-any ∙ c.if-any.false) in
+    search (rules, chains)
+
+pub returns-then-total-eq0-clause-none : goal.returns-then-total-eq0-clause-none
+returns-then-total-eq0-clause-none c =
+    let total : c.sum-total.result ≡ sum c.args.weights.now = search rules in
+    weightless c.args.quantity c.args.weights.now (omega arith)
+
+pub invariant_of-result : goal.invariant_of-result
+invariant_of-result c =
+    let total : c.sum-total.result ≡ sum c.args.weights.now = search rules in
+    let light = heavy (goal.at.invariant_of-result c).After-any ∙ c.if-any.false in
+    record { fairly = all_well _ _ (omega arith) (omega arith) light (omega arith); whole = total }
