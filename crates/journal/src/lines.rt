@@ -78,7 +78,7 @@ fn add_words(line: u64, words: &[&[u8]], sheet: &mut Vec<u32>) -> Result<(), She
     ensures { Taken result sheet.old.items (texts_of words.now) sheet.new.items }
 {
     for word in words {
-        let n = read(word).map_err(|fault| SheetFault::Malformed { line, fault })?;
+        let n: u32 = read(word).map_err(|fault| SheetFault::Malformed { line, fault })?;
         sheet.push(n)?;
     }
     Ok(())
