@@ -1,50 +1,45 @@
--- Writing a number from its last digit, and reading it back.
-use Rattle.std.proofs.Common.{◌≡◌, ℕ, ◌+◌, ◌-◌, ◌/◌, ◌%◌, ◌^◌, ◌<◌, ◌≤◌, Bool, true, cond, ◌&&◌, leb, List, [], ◌∷◌, ◌++◌, length, drop, set, is_ok, IfOk, Ok, Err, decimal, Result, sym, ap, ◌∙◌, append_assoc, arith, length-append, length-drop, le-leb}
-use Rattle.std.specs.Str.Parse.{digits_value}
-use Rattle.std.specs.Str.{all_ascii_digits}
-use Rattle.std.proofs.lemmas.Fmt.{decimal_digit, decimal_step, decimal_nonempty, length-decimal-le, digits_decimal, digits_value-decimal}
-use Rattle.std.proofs.lemmas.List.{drop-set}
+-- Which numbers digits write.
+use Rattle.std.proofs.Common.{◌≡◌, ℕ, ◌^◌, ◌<◌, ◌≤◌, Bool, true, false, cond, ◌&&◌, leb, List, [], ◌∷◌, length, Ok, Err, decimal, Result, sym, refl, ap, ◌∙◌, arith, le-leb}
+use borrow.Author.Tests.{lt-leb}
+use Rattle.std.specs.Char.{is_ascii_digit}
+use Rattle.std.specs.List.{list_all}
+use Rattle.std.specs.Str.Parse.{digits_value, ParsesUnsigned}
+use Rattle.std.specs.Str.{all_ascii_digits, IsUtf8}
+use Rattle.std.proofs.lemmas.Fmt.{decimal_nonempty, digits_decimal, digits_value-decimal, IsAscii-from_digits}
+use Rattle.std.proofs.lemmas.Result.{OkIff-at_err}
+use Rattle.std.proofs.lemmas.Str.{IsUtf8-from_ascii}
+use Rattle.std.proofs.lemmas.Str.Parse.{IsNumeralModel, numerals_by_value, tells_all_ascii_digits, parse_digits}
 use Rattle.journal.specs.declared.fault.Fault.TheVariants.{NotNumber, TooLarge}
 use Rattle.journal.specs.Numbers.{number_of, numeral}
-use Rattle.journal.proofs.Values.{own}
 
--- the digits from `at` on, behind those of the number that is left, are the number's
-pub record Spelled (n left at : ℕ) (digits : List ℕ) : Type 0 where
-  pub small : n < 2 ^ 64
-  pub rest : left < 2 ^ 64
-  pub within : at ≤ 20
-  pub places : length digits ≡ 20
-  pub whole : decimal left ++ drop at digits ≡ decimal n
+-- these words are the library's own for a numeral
+own : IsNumeralModel (λ ds. all_ascii_digits ds ≡ true) (digits_value 10)
+own = numerals_by_value _ tells_all_ascii_digits
 
-module _ (n left at : ℕ) (digits : List ℕ) (s : Spelled n left at digits) where
-  -- there is room for one digit more
-  pub room : 0 < at
-  room =
-      let most : length (decimal n) ≤ 20 = length-decimal-le 20 n (omega arith) (omega (arith, s.small)) s.small in
-      let least = decimal_nonempty left s.rest in
-      let sum : length (decimal left) + length (drop at digits) ≡ length (decimal n) = sym (length-append (decimal left) (drop at digits)) ∙ ap length s.whole in
-      omega (arith, length-drop at digits, s.places, s.within)
+pub digits_all : (ds : List ℕ) → list_all is_ascii_digit ds ≡ all_ascii_digits ds
+digits_all [] = refl
+digits_all (d ∷ ds) = ap (λ (b : Bool). is_ascii_digit d && b) (digits_all ds)
 
-  put : (d : ℕ) → drop (at - 1) (set digits (at - 1) d) ≡ d ∷ drop at digits
-  put d =
-      let r = room in
-      let h : at - 1 < length digits = omega (arith, s.places, s.within) in
-      let e : at - 1 + 1 ≡ at = omega arith in
-      drop-set digits (at - 1) d h ∙ ap (λ (k : ℕ). d ∷ drop k digits) e
+pub digits_text : (ds : List ℕ) → all_ascii_digits ds ≡ true → IsUtf8 ds
+digits_text ds h = IsUtf8-from_ascii ds (IsAscii-from_digits ds (own.to ds h))
 
-  pub more : 10 ≤ left → decimal (left / 10) ++ drop (at - 1) (set digits (at - 1) (48 + left % 10)) ≡ decimal n
-  more h =
-      ap (λ (ds : List ℕ). decimal (left / 10) ++ ds) (put (48 + left % 10))
-      ∙ sym (append_assoc (decimal (left / 10)) ((48 + left % 10) ∷ []) (drop at digits))
-      ∙ sym (ap (λ (ds : List ℕ). ds ++ drop at digits) (decimal_step left h s.rest))
-      ∙ s.whole
+pub numeral_all : (word : List ℕ) → numeral word ≡ true → all_ascii_digits word ≡ true
+numeral_all word h = by (leb 1 (length word)) (all_ascii_digits word) h
+  where
+    by : (a b : Bool) → (a && b) ≡ true → b ≡ true
+    by true b e = e
+    by false b e = absurd (let z : ⊥ = cc in z)
 
-  pub last : left < 10 → drop (at - 1) (set digits (at - 1) (48 + left)) ≡ decimal n
-  last h = put (48 + left) ∙ sym (ap (λ (ds : List ℕ). ds ++ drop at digits) (decimal_digit left h)) ∙ s.whole
+pub numeral_some : (word : List ℕ) → numeral word ≡ true → 0 < length word
+numeral_some [] h = absurd (let z : ⊥ = cc in z)
+numeral_some (d ∷ ds) h = omega arith
 
-pub extended : {E : Type 0} (r : Result Unit E) (was now more d : List ℕ) → now ≡ cond (is_ok r) (was ++ more) was → more ≡ d → IfOk r (λ _. now ≡ was ++ d)
-extended (Ok x) was now more d e is = e ∙ ap (λ (ds : List ℕ). was ++ ds) is
-extended (Err x) was now more d e is = tt
+-- a numeral that a number of 64 bits does not hold is above each limit
+pub numeral_large : {E : Type 0} (limit : ℕ) (word : List ℕ) (r : Result ℕ E) (e : E) → limit < 2 ^ 64 → numeral word ≡ true → ParsesUnsigned 64 10 word r → r ≡ Err e → Err TooLarge ≡ number_of limit word
+numeral_large limit word r e top h parses is =
+    let more : (digits_value 10 word < 2 ^ 64) → ⊥ = λ low. OkIff-at_err r _ _ e (parse_digits own 64 word r parses (numeral_all word h)) is (numeral_some word h, low) in
+    let t : leb (digits_value 10 word) limit ≡ false = lt-leb (digits_value 10 word) limit (omega (arith, more)) in
+    sym (ap (λ (b : Bool). cond b (cond (leb (digits_value 10 word) limit) (Ok (digits_value 10 word)) (Err TooLarge)) (Err NotNumber)) h ∙ ap (λ (b : Bool). cond b (Ok (digits_value 10 word)) (Err TooLarge)) t)
 
 -- what is written of a number is read as that number
 pub number_back : (limit n : ℕ) → limit < 2 ^ 64 → n ≤ limit → number_of limit (decimal n) ≡ Ok n

@@ -1,30 +1,21 @@
 -- Values and faults, one after the other.
-use Rattle.std.proofs.Common.{◌≡◌, ℕ, zero, suc, ◌+◌, ◌<◌, ◌≤◌, Bool, true, false, cond, eqb, leb, List, [], ◌∷◌, ◌++◌, length, get_or, take, drop, set, IsErrAnd, Ok, Err, Option, Result, sym, refl, ap, ◌∙◌, subst, append_assoc, append-nil, arith, eq-eqb, ne_eqb, leb-true}
-use Rattle.std.specs.Str.Parse.{digits_value}
-use Rattle.std.proofs.lemmas.List.{drop_more, drop_all, take_all, take_more_set}
+use Rattle.std.proofs.Common.{◌≡◌, ℕ, ◌+◌, ◌<◌, Bool, cond, List, [], ◌∷◌, ◌++◌, length, get_or, take, drop, set, IsErrAnd, Vec, Ok, Err, Result, sym, refl, ap, ◌∙◌, subst, append_assoc, arith, eq-eqb}
+use Rattle.std.proofs.lemmas.List.{drop_more, take_more_set}
+use Rattle.std.specs.declared.alloc.Global.{Global}
 use Rattle.journal.specs.declared.call.Call.{Call}
 use Rattle.journal.specs.declared.fault.Fault.{Fault}
-use Rattle.journal.specs.declared.fault.Fault.TheVariants.{Form, TooLarge, NotNumber}
+use Rattle.journal.specs.declared.fault.Fault.TheVariants.{Form}
 use Rattle.journal.specs.declared.kind.Kind.{Kind}
-use Rattle.journal.specs.Numbers.{number_of, made, each_of, numbers_of, numeral, after, all_of}
+use Rattle.journal.specs.Numbers.{number_of, made, each_of, numbers_of, after, all_of}
 use Rattle.journal.specs.declared.lines.SheetFault.{SheetFault}
 use Rattle.journal.specs.declared.lines.SheetFault.TheVariants.{Memory, Malformed}
-use Rattle.journal.specs.Words.{words_in}
 use Rattle.journal.specs.Sheets.{Taken, Sheet}
-use Rattle.journal.specs.Calls.{Said, heard, heard_line}
+use Rattle.journal.specs.Calls.{Said, heard}
 
 -- what `?` hands on is the fault
-pub broke : {X Y : Type 0} (q : Result Y Fault) (r : Result X Fault) (f : X → Result Y Fault) (e : Fault) → IsErrAnd q (λ y. y ≡ e) → Err e ≡ r → q ≡ made r f
-broke (Ok y) r f e by is = absurd by
-broke (Err y) r f e by is = ap (λ (x : Fault). Err x) by ∙ ap (λ (s : Result _ Fault). made s f) is
-
 pub broke_call : {X : Type 0} (q : Result Call Fault) (r : Result X Fault) (f : X → Result Said Fault) (e : Fault) → IsErrAnd q (λ y. y ≡ e) → Err e ≡ r → heard q ≡ made r f
 broke_call (Ok y) r f e by is = absurd by
 broke_call (Err y) r f e by is = ap (λ (x : Fault). Err x) by ∙ ap (λ (s : Result _ Fault). made s f) is
-
-pub broke_line : {X : Type 0} (q : Result (Option Call) Fault) (r : Result X Fault) (f : X → Result (Option Said) Fault) (e : Fault) → IsErrAnd q (λ y. y ≡ e) → Err e ≡ r → heard_line q ≡ made r f
-broke_line (Ok y) r f e by is = absurd by
-broke_line (Err y) r f e by is = ap (λ (x : Fault). Err x) by ∙ ap (λ (s : Result _ Fault). made s f) is
 
 -- and a value goes on
 pub went_on : {X Y : Type 0} (r : Result X Fault) (f : X → Result Y Fault) (x : X) → Ok x ≡ r → f x ≡ made r f
@@ -47,11 +38,6 @@ module _ (limits : List ℕ) (words : List (List ℕ)) (found : List ℕ) (i n :
   pub each_fault : (ns : List ℕ) (f : Fault) → Err f ≡ number_of (get_or limits i 0) (get_or words i []) → after ns (each_of (drop i limits) (drop i words)) ≡ Err f
   each_fault ns f e = ap (after ns) (first ∙ sym (ap (λ (r : Result ℕ Fault). made r (λ m. made (each_of (drop (i + 1) limits) (drop (i + 1) words)) (λ ms. Ok (m ∷ ms)))) e))
 
-pub each_all : (limits : List ℕ) (words : List (List ℕ)) (found : List ℕ) (i : ℕ) → length limits ≤ i → length found ≤ i → after (take i found) (each_of (drop i limits) (drop i words)) ≡ Ok found
-each_all limits words found i hl hf =
-    ap (λ (ls : List ℕ). after (take i found) (each_of ls (drop i words))) (drop_all i limits hl)
-    ∙ ap (λ (xs : List ℕ). Ok xs) (append-nil (take i found) ∙ take_all i found hf)
-
 pub after_none : (r : Result (List ℕ) Fault) → after [] r ≡ r
 after_none (Ok ms) = refl
 after_none (Err e) = refl
@@ -62,36 +48,6 @@ error_is (Err y) e by = ap (λ (x : Fault). Err x) by
 
 pub numbers_is : (k : Kind) (limits : List ℕ) (words : List (List ℕ)) → length words ≡ length limits → each_of limits words ≡ numbers_of k limits words
 numbers_is k limits words h = sym (ap (λ (b : Bool). cond b (each_of limits words) (Err (Form k))) (eq-eqb (length words) (length limits) h))
-
-pub numbers_not : (k : Kind) (limits : List ℕ) (words : List (List ℕ)) → (length words ≡ length limits → ⊥) → Err (Form k) ≡ numbers_of k limits words
-numbers_not k limits words h = sym (ap (λ (b : Bool). cond b (each_of limits words) (Err (Form k))) (ne_eqb (length words) (length limits) h))
-
--- a number that is read keeps within its limit
-number_bound : (limit : ℕ) (word : List ℕ) (n : ℕ) → Ok n ≡ number_of limit word → n ≤ limit
-number_bound limit word n e = by (numeral word) (leb (digits_value 10 word) limit) refl e
-  where
-    by : (b t : Bool) → leb (digits_value 10 word) limit ≡ t → Ok n ≡ cond b (cond t (Ok (digits_value 10 word)) (Err TooLarge)) (Err NotNumber) → n ≤ limit
-    by true true h p = let q : n ≡ digits_value 10 word = cc in omega (arith, leb-true (digits_value 10 word) limit h)
-    by true false h p = absurd (let z : ◌≡◌ {A = ℕ} 0 1 = cc in omega arith)
-    by false t h p = absurd (let z : ◌≡◌ {A = ℕ} 0 1 = cc in omega arith)
-
-each_bound : (limits : List ℕ) (words : List (List ℕ)) (ns : List ℕ) (i : ℕ) → Ok ns ≡ each_of limits words → get_or ns i 0 ≤ get_or limits i 0
-each_bound [] words ns i e = let q : ns ≡ [] = cc in subst (λ (ms : List ℕ). get_or ms i 0 ≤ get_or [] i 0) (sym q) (omega arith)
-each_bound (l ∷ ls) [] ns i e = let q : ns ≡ [] = cc in subst (λ (ms : List ℕ). get_or ms i 0 ≤ get_or (l ∷ ls) i 0) (sym q) (omega arith)
-each_bound (l ∷ ls) (w ∷ ws) ns i e = by (λ ms k q. each_bound ls ws ms k q) (number_of l w) (each_of ls ws) refl refl e i
-  where
-    by : ((ms : List ℕ) (k : ℕ) → Ok ms ≡ each_of ls ws → get_or ms k 0 ≤ get_or ls k 0) → (r : Result ℕ Fault) (q : Result (List ℕ) Fault) → number_of l w ≡ r → each_of ls ws ≡ q → Ok ns ≡ made r (λ n. made q (λ ms. Ok (n ∷ ms))) → (k : ℕ) → get_or ns k 0 ≤ get_or (l ∷ ls) k 0
-    by more (Ok n) (Ok ms) hr hq p zero = let s : ns ≡ n ∷ ms = cc in subst (λ (xs : List ℕ). get_or xs 0 0 ≤ l) (sym s) (number_bound l w n (sym hr))
-    by more (Ok n) (Ok ms) hr hq p (suc k) = let s : ns ≡ n ∷ ms = cc in subst (λ (xs : List ℕ). get_or xs (suc k) 0 ≤ get_or ls k 0) (sym s) (more ms k (sym hq))
-    by more (Ok n) (Err f) hr hq p k = absurd (let z : ◌≡◌ {A = ℕ} 0 1 = cc in omega arith)
-    by more (Err f) q hr hq p k = absurd (let z : ◌≡◌ {A = ℕ} 0 1 = cc in omega arith)
-
-pub numbers_bound : (k : Kind) (limits : List ℕ) (words : List (List ℕ)) (ns : List ℕ) (i : ℕ) → Ok ns ≡ numbers_of k limits words → get_or ns i 0 ≤ get_or limits i 0
-numbers_bound k limits words ns i e = by (eqb (length words) (length limits)) e
-  where
-    by : (b : Bool) → Ok ns ≡ cond b (each_of limits words) (Err (Form k)) → get_or ns i 0 ≤ get_or limits i 0
-    by true p = each_bound limits words ns i p
-    by false p = absurd (let z : ◌≡◌ {A = ℕ} 0 1 = cc in omega arith)
 
 -- what a sheet holds, and the words yet to be read
 pub all_more : (words : List (List ℕ)) (i n : ℕ) (have : List ℕ) → i < length words → Ok n ≡ number_of 4294967295 (get_or words i []) → after have (all_of (drop i words)) ≡ after (have ++ n ∷ []) (all_of (drop (i + 1) words))
@@ -105,9 +61,6 @@ pub all_fault : (words : List (List ℕ)) (i : ℕ) (have : List ℕ) (f : Fault
 all_fault words i have f h e =
     let g : ℕ → Result (List ℕ) Fault = λ m. made (all_of (drop (i + 1) words)) (λ ms. Ok (m ∷ ms)) in
     ap (λ (ws : List (List ℕ)). after have (all_of ws)) (drop_more words i [] h) ∙ sym (ap (λ (r : Result ℕ Fault). after have (made r g)) e)
-
-pub all_end : (words : List (List ℕ)) (i : ℕ) (have : List ℕ) → length words ≤ i → after have (all_of (drop i words)) ≡ Ok have
-all_end words i have h = ap (λ (ws : List (List ℕ)). after have (all_of ws)) (drop_all i words h) ∙ ap (λ (ns : List ℕ). Ok ns) (append-nil have)
 
 -- one list of words behind another
 pub all_append : (xs ys : List (List ℕ)) → all_of (xs ++ ys) ≡ made (all_of xs) (λ ns. after ns (all_of ys))
@@ -139,11 +92,16 @@ all_line_fault have xs ys f e = ap (after have) (all_append xs ys) ∙ by (all_o
     by (Ok ns) p = absurd (let z : ◌≡◌ {A = ℕ} 0 1 = cc in omega arith)
     by (Err g) p = p
 
+-- a word that is no number ends a sheet
+pub taken_err : (q : Result Unit SheetFault) (f : SheetFault) (line : ℕ) (e : Fault) (was : List ℕ) (words : List (List ℕ)) (now : List ℕ) → IsErrAnd q (λ y. y ≡ f) → f ≡ Malformed line e → after was (all_of words) ≡ Err e → Taken q was words now
+taken_err (Ok x) f line e was words now by is h = absurd by
+taken_err (Err y) f line e was words now by is h = subst (λ (z : SheetFault). Taken (Err z) was words now) (sym (by ∙ is)) h
+
 -- a line that was not read ends the file
 pub all_stop : (e : SheetFault) (have : List ℕ) (xs ys : List (List ℕ)) (now : List ℕ) (all : List (List ℕ)) → Taken (Err e) have xs now → all_of all ≡ after have (all_of (xs ++ ys)) → Sheet (Err e) all
 all_stop Memory have xs ys now all t is = tt
 all_stop (Malformed line f) have xs ys now all t is = is ∙ all_line_fault have xs ys f t
 
-pub all_empty : (have : List ℕ) (t : List ℕ) → length t ≡ 0 → after have (all_of (words_in t)) ≡ Ok have
-all_empty have [] e = ap (λ (ns : List ℕ). Ok ns) (append-nil have)
-all_empty have (b ∷ bs) e = absurd (let z : ⊥ = omega arith in z)
+pub stopped : (q : Result (Vec ℕ Global) SheetFault) (e : SheetFault) (all : List (List ℕ)) → IsErrAnd q (λ y. y ≡ e) → Sheet (Err e) all → Sheet q all
+stopped (Ok x) e all by h = absurd by
+stopped (Err y) e all by h = subst (λ (z : SheetFault). Sheet (Err z) all) (sym by) h

@@ -1,6 +1,6 @@
-mod Values
-mod Cuts
-mod Finds
-mod Eachs
-mod Texts
-mod Decimals
+pub mod Pieces
+pub mod LineCuts
+pub mod Decimals
+pub mod Eachs
+pub mod Texts
+pub mod Helds

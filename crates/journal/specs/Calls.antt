@@ -12,7 +12,7 @@ use Rattle.journal.specs.declared.kind.Kind.TheVariants as of
 use Rattle.journal.specs.declared.kind.Rule.{Rule}
 use Rattle.journal.specs.declared.kind.Shape.{Shape}
 use Rattle.journal.specs.declared.kind.Shape.TheVariants as shaped
-use Rattle.journal.specs.declared.words.Class.TheVariants.{Name, File}
+use Rattle.journal.specs.Words.{of_file, of_name}
 use Rattle.journal.specs.Numbers.{number_of, made, numbers_of, word_in, tenths_of}
 use Rattle.journal.specs.Vocabulary.{kind_in, shape_in, rule_in}
 
@@ -84,23 +84,23 @@ max64 = 18446744073709551615
 
 -- the words behind `profile NAME table`, `profile NAME even` and `profile NAME season`
 abbrev pub shaped_of : Shape → List ℕ → List (List ℕ) → Result Said Fault
-shaped_of shaped.Table name ws = sized of.Profile 1 ws (made (word_in File NotFile (at ws 0)) (λ _. Ok (table name (at ws 0))))
+shaped_of shaped.Table name ws = sized of.Profile 1 ws (made (word_in of_file NotFile (at ws 0)) (λ _. Ok (table name (at ws 0))))
 shaped_of shaped.Even name ws = made (numbers_of of.Profile (max32 ∷ []) ws) (λ ns. Ok (even name (slice_index ns 0)))
 shaped_of shaped.Season name ws =
     sized of.Profile 4 ws
     (made (number_of max32 (at ws 0)) (λ s.
-    made (word_in File NotFile (at ws 1)) (λ _.
+    made (word_in of_file NotFile (at ws 1)) (λ _.
     cond (bytes_eq (at ws 2) (codes "over")) (Ok (season name s (at ws 1) (at ws 3))) (Err (Form of.Profile)))))
 
 abbrev pub profile_of : List (List ℕ) → Result Said Fault
 profile_of ws =
     cond (nat_le 2 (length ws))
-    (made (word_in Name NotName (at ws 0)) (λ _. some (Form of.Profile) (shape_in (at ws 1)) (λ s. shaped_of s (at ws 0) (drop 2 ws))))
+    (made (word_in of_name NotName (at ws 0)) (λ _. some (Form of.Profile) (shape_in (at ws 1)) (λ s. shaped_of s (at ws 0) (drop 2 ws))))
     (Err (Form of.Profile))
 
 abbrev pub trader_of : List (List ℕ) → Result Said Fault
 trader_of ws =
-    cond (length ws == 0) (Ok (trader None)) (sized of.Trader 1 ws (made (word_in Name NotName (at ws 0)) (λ _. Ok (trader (Some (at ws 0))))))
+    cond (length ws == 0) (Ok (trader None)) (sized of.Trader 1 ws (made (word_in of_name NotName (at ws 0)) (λ _. Ok (trader (Some (at ws 0))))))
 
 -- the words behind a call's first
 abbrev pub form_of : Kind → List (List ℕ) → Result Said Fault

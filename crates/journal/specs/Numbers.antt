@@ -1,13 +1,11 @@
 -- Which numbers and temperatures words write.
-use Rattle.std.specs.Prelude.{ℕ, ◌+◌, ◌-◌, ◌*◌, Bool, cond, ◌&&◌, List, [], ◌∷◌, ◌++◌, length, take, drop, ℤ, pos, neg_ℤ, Ok, Err, Result, ◌==◌, nat_le, slice_index}
+use Rattle.std.specs.Prelude.{◌≡◌, ℕ, MatchResult, ◌+◌, ◌-◌, ◌*◌, Bool, cond, ◌&&◌, List, [], ◌∷◌, ◌++◌, length, take, drop, ℤ, pos, neg_ℤ, Ok, Err, Result, ◌==◌, nat_le, slice_index}
 use Rattle.std.specs.Str.Parse.{digits_value}
-use Rattle.std.specs.List.{prefix_len}
+use Rattle.std.specs.List.{list_all}
 use Rattle.std.specs.Str.{all_ascii_digits}
 use Rattle.journal.specs.declared.fault.Fault.{Fault}
 use Rattle.journal.specs.declared.fault.Fault.TheVariants.{NotNumber, TooLarge, Form}
 use Rattle.journal.specs.declared.kind.Kind.{Kind}
-use Rattle.journal.specs.declared.words.Class.{Class}
-use Rattle.journal.specs.Words.{belongs}
 
 -- one digit or more, and nothing else
 abbrev pub numeral : List ℕ → Bool
@@ -33,8 +31,13 @@ abbrev pub numbers_of : Kind → List ℕ → List (List ℕ) → Result (List �
 numbers_of kind limits words = cond (length words == length limits) (each_of limits words) (Err (Form kind))
 
 -- every byte of the word belongs to a class
-abbrev pub word_in : Class → Fault → List ℕ → Result Unit Fault
-word_in class fault word = cond (prefix_len (belongs class) word == length word) (Ok tt) (Err fault)
+abbrev pub word_in : (ℕ → Bool) → Fault → List ℕ → Result Unit Fault
+word_in class fault word = cond (list_all class word) (Ok tt) (Err fault)
+
+-- a number as a value of another type of numbers, and too large where that type does not hold it
+abbrev pub Held : {N E : Type 0} → (ℕ → Result N E → Type 0) → Result ℕ Fault → Result N Fault → Type 0
+Held {N} {E} holds (Err fault) result = result ≡ Err fault
+Held {N} {E} holds (Ok n) result = (held : Result N E) × holds n held × MatchResult held (λ x. result ≡ Ok x) (λ _. result ≡ Err TooLarge)
 
 -- tenths of a degree: a whole number of degrees, and one digit behind a point where there is one
 abbrev pub pointed : List ℕ → Bool

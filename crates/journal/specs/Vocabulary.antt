@@ -1,5 +1,6 @@
 -- The fixed words of the journal, and what each stands for.
-use Rattle.std.specs.Prelude.{ℕ, cond, List, [], ◌∷◌, Some, None, codes, Option}
+use Rattle.std.specs.Prelude.{◌≡◌, ℕ, List, [], ◌∷◌, Some, codes, Option, refl}
+use Rattle.std.specs.List.{find}
 use Rattle.std.specs.Str.{bytes_eq}
 use Rattle.journal.specs.declared.kind.Kind.{Kind}
 use Rattle.journal.specs.declared.kind.Kind.TheVariants.{Ledger, Sheet, Profile, Trader, Point, Open, Enter, Inflow, Share, Abandon, Quantity, Read, Book, HandOver, Withdraw}
@@ -37,15 +38,49 @@ rule_word Largest = codes "largest"
 
 -- the first of a list that goes by a word
 abbrev pub named : {X : Type 0} → (X → List ℕ) → List X → List ℕ → Option X
-named f [] word = None
-named f (x ∷ xs) word = cond (bytes_eq word (f x)) (Some x) (named f xs word)
+named f xs word = find (λ x. bytes_eq word (f x)) xs
+
+abbrev pub kinds : List Kind
+kinds = Ledger ∷ Sheet ∷ Profile ∷ Trader ∷ Point ∷ Open ∷ Enter ∷ Inflow ∷ Share ∷ Abandon ∷ Quantity ∷ Read ∷ Book ∷ HandOver ∷ Withdraw ∷ []
+
+abbrev pub shapes : List Shape
+shapes = Table ∷ Even ∷ Season ∷ []
+
+abbrev pub rules : List Rule
+rules = Running ∷ Largest ∷ []
 
 abbrev pub kind_in : List ℕ → Option Kind
-kind_in word =
-    named kind_word (Ledger ∷ Sheet ∷ Profile ∷ Trader ∷ Point ∷ Open ∷ Enter ∷ Inflow ∷ Share ∷ Abandon ∷ Quantity ∷ Read ∷ Book ∷ HandOver ∷ Withdraw ∷ []) word
+kind_in word = named kind_word kinds word
 
 abbrev pub shape_in : List ℕ → Option Shape
-shape_in word = named shape_word (Table ∷ Even ∷ Season ∷ []) word
+shape_in word = named shape_word shapes word
 
 abbrev pub rule_in : List ℕ → Option Rule
-rule_in word = named rule_word (Running ∷ Largest ∷ []) word
+rule_in word = named rule_word rules word
+
+-- each is found by its own word
+pub kind_own : (k : Kind) → kind_in (kind_word k) ≡ Some k
+kind_own Ledger = refl
+kind_own Sheet = refl
+kind_own Profile = refl
+kind_own Trader = refl
+kind_own Point = refl
+kind_own Open = refl
+kind_own Enter = refl
+kind_own Inflow = refl
+kind_own Share = refl
+kind_own Abandon = refl
+kind_own Quantity = refl
+kind_own Read = refl
+kind_own Book = refl
+kind_own HandOver = refl
+kind_own Withdraw = refl
+
+pub shape_own : (s : Shape) → shape_in (shape_word s) ≡ Some s
+shape_own Table = refl
+shape_own Even = refl
+shape_own Season = refl
+
+pub rule_own : (r : Rule) → rule_in (rule_word r) ≡ Some r
+rule_own Running = refl
+rule_own Largest = refl

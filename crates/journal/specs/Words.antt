@@ -1,72 +1,48 @@
 -- How a line of text is cut into words.
-use Rattle.std.specs.Prelude.{ℕ, Bool, cond, not, ◌&&◌, ◌||◌, List, [], ◌∷◌, ◌++◌, map, take, drop, ◌==◌, nat_eq, nat_le, nat_lt}
+use Rattle.std.specs.Prelude.{ℕ, Bool, not, cond, ◌&&◌, ◌||◌, List, [], ◌∷◌, map, filter, length, ◌==◌, nat_le, nat_lt}
 use Rattle.std.specs.Borrow.{Bor}
 use Rattle.std.specs.Char.{is_ascii_alphabetic, is_ascii_digit}
-use Rattle.std.specs.List.{prefix_len}
-use Rattle.journal.specs.declared.words.Class.{Class}
-use Rattle.journal.specs.declared.words.Class.TheVariants.{Blank, Ink, Text, Name, File, Line}
+use Rattle.std.specs.List.{after_first, before_first, flat_map, onto_first, slice_split}
 
 -- space, tab and carriage return stand between words
 abbrev pub blank : ℕ → Bool
 blank b = b == 32 || (b == 9 || b == 13)
 
--- ink is what words are made of, and text what stands before a '#'
-abbrev pub belongs : Class → ℕ → Bool
-belongs Blank b = blank b
-belongs Ink b = not (blank b)
-belongs Text b = not (b == 35)
-belongs Name b = nat_le 128 b || (is_ascii_alphabetic b || (is_ascii_digit b || (b == 45 || (b == 95 || b == 46))))
-belongs File b = nat_lt 32 b && not (b == 127)
-belongs Line b = not (b == 10)
+-- a name has letters, digits, a few signs, and whatever is not ASCII
+abbrev pub of_name : ℕ → Bool
+of_name b = nat_le 128 b || (is_ascii_alphabetic b || (is_ascii_digit b || (b == 45 || (b == 95 || b == 46))))
+
+-- a file's name has no blank and no control character
+abbrev pub of_file : ℕ → Bool
+of_file b = nat_lt 32 b && not (b == 127)
 
 -- the first line, and what stands behind its line feed
 abbrev pub line_of : List ℕ → List ℕ
-line_of text = take (prefix_len (belongs Line) text) text
+line_of text = before_first (λ b. b == 10) text
 
 abbrev pub behind_line : List ℕ → List ℕ
-behind_line text = drop 1 (drop (prefix_len (belongs Line) text) text)
+behind_line text = after_first (λ b. b == 10) text
+
+-- the lines, each up to a line feed or to the end of the text: nothing stands behind the last line feed of a text that ends in one
+abbrev pub lines_of : List ℕ → List (List ℕ)
+lines_of [] = []
+lines_of (b ∷ bs) = cond (b == 10) ([] ∷ lines_of bs) (onto_first b (lines_of bs))
 
 -- what stands before the comment
 abbrev pub uncommented_of : List ℕ → List ℕ
-uncommented_of line = take (prefix_len (belongs Text) line) line
+uncommented_of line = before_first (λ b. b == 35) line
 
-abbrev pub unblanked : List ℕ → List ℕ
-unblanked text = drop (prefix_len (belongs Blank) text) text
-
--- the first word, and what stands behind it
-abbrev pub front_of : List ℕ → List ℕ
-front_of text = take (prefix_len (belongs Ink) (unblanked text)) (unblanked text)
-
-abbrev pub rest_of : List ℕ → List ℕ
-rest_of text = drop (prefix_len (belongs Ink) (unblanked text)) (unblanked text)
-
--- b is put before the first piece
-abbrev pub joined : ℕ → List (List ℕ) → List (List ℕ)
-joined b [] = (b ∷ []) ∷ []
-joined b (piece ∷ pieces) = (b ∷ piece) ∷ pieces
-
--- the text cut at each byte that parts it: what stands between two of them that are neighbours is empty
-abbrev pub pieces_by : (ℕ → Bool) → List ℕ → List (List ℕ)
-pieces_by parts [] = [] ∷ []
-pieces_by parts (b ∷ bs) = cond (parts b) ([] ∷ pieces_by parts bs) (joined b (pieces_by parts bs))
-
-abbrev pub filled : List (List ℕ) → List (List ℕ)
-filled [] = []
-filled ([] ∷ pieces) = filled pieces
-filled ((b ∷ bs) ∷ pieces) = (b ∷ bs) ∷ filled pieces
-
--- the words: the pieces that are not empty
+-- the words: the pieces between blanks that are not empty
 abbrev pub words_of : List ℕ → List (List ℕ)
-words_of text = filled (pieces_by blank text)
+words_of text = filter (λ word. not (length word == 0)) (slice_split blank text)
 
 -- the words of lines, line by line, without their comments
 abbrev pub words_of_lines : List (List ℕ) → List (List ℕ)
-words_of_lines [] = []
-words_of_lines (line ∷ lines) = words_of (uncommented_of line) ++ words_of_lines lines
+words_of_lines lines = flat_map (λ line. words_of (uncommented_of line)) lines
 
 -- the words of a whole text, which line feeds part into lines
 abbrev pub words_in : List ℕ → List (List ℕ)
-words_in text = words_of_lines (pieces_by (λ b. nat_eq b 10) text)
+words_in text = words_of_lines (slice_split (λ b. b == 10) text)
 
 -- what slices hold
 abbrev pub texts_of : List (Bor (List ℕ)) → List (List ℕ)

@@ -1,17 +1,25 @@
 // Why a line is malformed.
 use crate::kind::Kind;
-use std::fmt;
+use thiserror::Error;
 
-#[derive(Clone, Copy, PartialEq, Eq, Debug)]
+#[derive(Clone, Copy, PartialEq, Eq, Debug, Error)]
 pub enum Fault {
+    #[error("no such call; `station --help` lists them")]
     UnknownCall,
     // the call is known, and its words are not as it has them
+    #[error("the call is written: {}", form(*.0))]
     Form(Kind),
+    #[error("not a number: the digits 0 to 9 and nothing else")]
     NotNumber,
+    #[error("a number too large for its place")]
     TooLarge,
+    #[error("not a temperature: degrees with at most one decimal, as 10.5 or -8.1")]
     NotTemperature,
+    #[error("not a name: letters, digits, - _ and . only")]
     NotName,
+    #[error("a control character in a file's name")]
     NotFile,
+    #[error("the share rule is `running` or `largest`")]
     NotRule,
 }
 
@@ -35,25 +43,5 @@ fn form(kind: Kind) -> &'static str {
         Kind::Book => "book POINT",
         Kind::HandOver => "hand-over POINT TRADER",
         Kind::Withdraw => "withdraw POINT",
-    }
-}
-
-impl fmt::Display for Fault {
-    fn fmt<W: fmt::Write>(&self, f: &mut fmt::Formatter<W>) -> fmt::Result {
-        match self {
-            Fault::UnknownCall => f.write_str("no such call; `station --help` lists them"),
-            Fault::Form(kind) => {
-                f.write_str("the call is written: ")?;
-                f.write_str(form(*kind))
-            }
-            Fault::NotNumber => f.write_str("not a number: the digits 0 to 9 and nothing else"),
-            Fault::TooLarge => f.write_str("a number too large for its place"),
-            Fault::NotTemperature => {
-                f.write_str("not a temperature: degrees with at most one decimal, as 10.5 or -8.1")
-            }
-            Fault::NotName => f.write_str("not a name: letters, digits, - _ and . only"),
-            Fault::NotFile => f.write_str("a control character in a file's name"),
-            Fault::NotRule => f.write_str("the share rule is `running` or `largest`"),
-        }
     }
 }

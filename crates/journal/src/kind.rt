@@ -1,7 +1,7 @@
 // The fixed words of the journal.
 ghost use Rattle.std.specs.Prelude.{◌≡◌, ℕ, List, Some};
 ghost use Rattle.std.specs.Str.{bytes_eq};
-ghost use Rattle.journal.specs.Vocabulary.{kind_word, kind_in, shape_word, shape_in, rule_word, rule_in, named};
+ghost use Rattle.journal.specs.Vocabulary.{kind_own, kind_word, kinds, named, rule_own, rule_word, rules, shape_own, shape_word, shapes};
 
 // The calls, by their first word.
 #[derive(Clone, Copy, PartialEq, Eq, Debug)]
@@ -39,15 +39,45 @@ pub enum Rule {
 }
 
 // What goes by a fixed word.
-pub trait Worded {
+pub trait Worded: Copy + 'static {
     ghost worded: { Self → List ℕ };
+
+    ghost cases: { List Self };
+
+    fn all() -> &'static [Self]
+        ensures { result.now ≡ cases };
 
     fn word(&self) -> &'static str
         ensures { result.now ≡ worded self.now };
+
+    // The first of all that goes by the word of any is that one.
+    ghost own: { (x : Self) → named worded cases (worded x) ≡ Some x };
 }
 
 impl Worded for Kind {
     ghost worded = { kind_word };
+
+    ghost cases = { kinds };
+
+    fn all() -> &'static [Kind] {
+        &[
+            Kind::Ledger,
+            Kind::Sheet,
+            Kind::Profile,
+            Kind::Trader,
+            Kind::Point,
+            Kind::Open,
+            Kind::Enter,
+            Kind::Inflow,
+            Kind::Share,
+            Kind::Abandon,
+            Kind::Quantity,
+            Kind::Read,
+            Kind::Book,
+            Kind::HandOver,
+            Kind::Withdraw,
+        ]
+    }
 
     fn word(&self) -> &'static str {
         match self {
@@ -68,10 +98,18 @@ impl Worded for Kind {
             Kind::Withdraw => "withdraw",
         }
     }
+
+    ghost own = { kind_own };
 }
 
 impl Worded for Shape {
     ghost worded = { shape_word };
+
+    ghost cases = { shapes };
+
+    fn all() -> &'static [Shape] {
+        &[Shape::Table, Shape::Even, Shape::Season]
+    }
 
     fn word(&self) -> &'static str {
         match self {
@@ -80,10 +118,18 @@ impl Worded for Shape {
             Shape::Season => "season",
         }
     }
+
+    ghost own = { shape_own };
 }
 
 impl Worded for Rule {
     ghost worded = { rule_word };
+
+    ghost cases = { rules };
+
+    fn all() -> &'static [Rule] {
+        &[Rule::Running, Rule::Largest]
+    }
 
     fn word(&self) -> &'static str {
         match self {
@@ -91,6 +137,8 @@ impl Worded for Rule {
             Rule::Largest => "largest",
         }
     }
+
+    ghost own = { rule_own };
 }
 
 // Whether a word is a given text.
@@ -100,60 +148,13 @@ pub(crate) fn is_word(word: &[u8], text: &str) -> bool
     word == text.as_bytes()
 }
 
-// The first of `all` that goes by a word.
-fn find<W: Worded + Copy>(all: &[W], word: &[u8]) -> Option<W>
-    ensures { result ≡ named W.Worded.worded all.now word.now }
+// What a word stands for. Each is read by its own word.
+pub(crate) fn read<W: Worded>(word: &[u8]) -> Option<W>
+    ensures value { result ≡ named W.worded W.cases word.now }
+    ensures own { (x : W) → word.now ≡ W.worded x → result ≡ Some x }
 {
-    for item in all {
-        if is_word(word, item.word()) {
-            return Some(*item);
-        }
-    }
-    None
-}
-
-impl Kind {
-    const ALL: [Kind; 15] = [
-        Kind::Ledger,
-        Kind::Sheet,
-        Kind::Profile,
-        Kind::Trader,
-        Kind::Point,
-        Kind::Open,
-        Kind::Enter,
-        Kind::Inflow,
-        Kind::Share,
-        Kind::Abandon,
-        Kind::Quantity,
-        Kind::Read,
-        Kind::Book,
-        Kind::HandOver,
-        Kind::Withdraw,
-    ];
-
-    // The call that a first word stands for. Each call is read by its own word.
-    pub(crate) fn read(word: &[u8]) -> Option<Kind>
-        ensures value { result ≡ kind_in word.now }
-        ensures own { (k : Kind) → word.now ≡ kind_word k → result ≡ Some k }
-    {
-        find(&Kind::ALL, word)
-    }
-}
-
-impl Shape {
-    pub(crate) fn read(word: &[u8]) -> Option<Shape>
-        ensures value { result ≡ shape_in word.now }
-        ensures own { (s : Shape) → word.now ≡ shape_word s → result ≡ Some s }
-    {
-        find(&[Shape::Table, Shape::Even, Shape::Season], word)
-    }
-}
-
-impl Rule {
-    pub(crate) fn read(word: &[u8]) -> Option<Rule>
-        ensures value { result ≡ rule_in word.now }
-        ensures own { (s : Rule) → word.now ≡ rule_word s → result ≡ Some s }
-    {
-        find(&[Rule::Running, Rule::Largest], word)
-    }
+    W::all()
+        .iter()
+        .find(|item| is_word(word, item.word()))
+        .copied()
 }

@@ -1,12 +1,14 @@
 // A text as lines, and a file of numbers.
 ghost use Rattle.std.specs.Prelude.{◌≡◌, ◌<◌, length};
-ghost use Rattle.journal.specs.Words.{line_of, behind_line, uncommented_of, words_of, words_in, texts_of};
-ghost use Rattle.journal.specs.Sheets.{Taken, Sheet};
+ghost use Rattle.std.specs.Iterator.{YieldsFirstBy, item_count};
+ghost use Rattle.journal.specs.Words.{behind_line, line_of, lines_of, texts_of, uncommented_of, words_in, words_of};
+ghost use Rattle.journal.specs.Sheets.{Sheet, Taken};
+ghost use Rattle.journal.specs.declared.lines.SheetFault.TheVariants.{Memory};
 
 use crate::fault::Fault;
-use crate::number::number;
-use crate::words::{Class, front, split, uncommented};
-use std::alloc::Global;
+use crate::number::read;
+use crate::words::{cut_at, split, uncommented};
+use std::alloc::{AllocError, AllocFailed, Global};
 
 // The first line without its line feed, and what stands behind the line feed.
 pub fn cut_line(text: &[u8]) -> (&[u8], &[u8])
@@ -14,12 +16,37 @@ pub fn cut_line(text: &[u8]) -> (&[u8], &[u8])
     ensures rest { result.1.now ≡ behind_line text.now }
     ensures shorter { 0 < length text.now → length result.1.now < length text.now }
 {
-    let (line, end) = text.split_at(front(text, Class::Line));
-    if end.is_empty() {
-        (line, end)
-    } else {
-        let (_feed, rest) = end.split_at(1);
-        (line, rest)
+    cut_at(text, b'\n')
+}
+
+// The lines of a text, each without its line feed.
+#[derive(Drop)]
+pub struct Lines<'a> {
+    rest: &'a [u8],
+}
+
+impl<'a> Lines<'a> {
+    pub fn of(text: &'a [u8]) -> Lines<'a>
+        ensures { lines_of result.rest.now ≡ lines_of text.now }
+    {
+        Lines { rest: text }
+    }
+}
+
+impl<'a> Iterator for Lines<'a> {
+    type Item = &'a [u8];
+
+    ghost next_gives = { YieldsFirstBy (λ line. line.now) (λ lines. lines_of lines.rest.now) };
+
+    ghost remaining = { item_count (λ lines. lines_of lines.rest.now) };
+
+    fn next(&mut self) -> Option<&'a [u8]> {
+        if self.rest.is_empty() {
+            return None;
+        }
+        let (line, rest) = cut_line(self.rest);
+        self.rest = rest;
+        Some(line)
     }
 }
 
@@ -30,18 +57,29 @@ pub enum SheetFault {
     Malformed { line: u64, fault: Fault },
 }
 
+impl From<AllocError> for SheetFault {
+    ghost from_gives = { λ _ fault. fault ≡ Memory };
+
+    fn from(_e: AllocError) -> SheetFault {
+        SheetFault::Memory
+    }
+}
+
+impl<T: Drop> From<AllocFailed<T>> for SheetFault {
+    ghost from_gives = { λ _ fault. fault ≡ Memory };
+
+    fn from(_e: AllocFailed<T>) -> SheetFault {
+        SheetFault::Memory
+    }
+}
+
 // Adds the numbers that words write to a sheet.
 fn add_words(line: u64, words: &[&[u8]], sheet: &mut Vec<u32>) -> Result<(), SheetFault>
     ensures { Taken result sheet.old.items (texts_of words.now) sheet.new.items }
 {
     for word in words {
-        match number(word, 4_294_967_295) {
-            Ok(n) => match sheet.push(n as u32) {
-                Ok(()) => {}
-                Err(_) => return Err(SheetFault::Memory),
-            },
-            Err(fault) => return Err(SheetFault::Malformed { line, fault }),
-        }
+        let n: u32 = read(word).map_err(|fault| SheetFault::Malformed { line, fault })?;
+        sheet.push(n)?;
     }
     Ok(())
 }
@@ -55,10 +93,8 @@ fn add_line<'a>(
 ) -> Result<(), SheetFault>
     ensures { Taken result sheet.old.items (words_of (uncommented_of text.now)) sheet.new.items }
 {
-    match split(uncommented(text), words) {
-        Ok(()) => add_words(line, words.as_slice(), sheet),
-        Err(_) => Err(SheetFault::Memory),
-    }
+    split(uncommented(text), words)?;
+    add_words(line, words.as_slice(), sheet)
 }
 
 // The numbers of a file.
@@ -67,15 +103,8 @@ pub fn read_sheet(heap: Global, text: &[u8]) -> Result<Vec<u32>, SheetFault>
 {
     let mut sheet = Vec::new(heap);
     let mut words = Vec::new(heap);
-    let mut rest = text;
-    let mut line: u64 = 1;
-    while !rest.is_empty() {
-        let (first, behind) = cut_line(rest);
-        match add_line(line, first, &mut words, &mut sheet) {
-            Ok(()) => rest = behind,
-            Err(fault) => return Err(fault),
-        }
-        line = line.saturating_add(1);
+    for (before, line) in (0u64..).zip(Lines::of(text)) {
+        add_line(before + 1, line, &mut words, &mut sheet)?;
     }
     Ok(sheet)
 }

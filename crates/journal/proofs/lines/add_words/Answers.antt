@@ -1,17 +1,24 @@
-use Rattle.std.proofs.Common.{ℕ, ◌+◌, ◌<◌, ◌≤◌, List, length, drop, vec_items, sym, ap, ◌∙◌, arith}
+use Rattle.std.proofs.Common.{◌≡◌, ℕ, ◌+◌, ◌<◌, List, length, drop, vec_items, refl, sym, ap, ◌∙◌, arith, lit<, rules}
+use Rattle.journal.specs.declared.lines.SheetFault.TheVariants.{Malformed}
 use Rattle.journal.specs.Words.{texts_of}
 use Rattle.journal.specs.Numbers.{number_of, all_of, after}
-use Rattle.journal.proofs.Eachs.{all_more, all_fault, all_end}
-use Rattle.journal.proofs.Texts.{length_texts, texts_at}
+use Rattle.journal.specs.Calls.{max32}
+use Rattle.journal.proofs.Eachs.{all_more, all_fault, taken_err}
+use Rattle.journal.proofs.Helds.{held, mapped_err, mapped_ok}
+use Rattle.journal.proofs.Texts.{text_at, length_texts, texts_at}
 use Rattle.journal.proofs.lines.add_words.Goals as goal
 
-pub returns-in-Err : goal.returns-in-Err
-returns-in-Err c =
+pub returns-in_err-n : goal.returns-in_err-n
+returns-in_err-n c =
     let ws = c.args.words.now in
     let i = c.loop-word.word-index in
     let lw = length_texts ws in
     let h : i < length (texts_of ws) = omega arith in
-    c.loop-word.invariant ∙ all_fault (texts_of ws) i (vec_items c.loop-word.sheet) c.in-Err.fault h (c.in-Err.ensures.value ∙ sym (ap (number_of 4294967295) (texts_at ws i)))
+    let read = held 32 max32 (text_at ws i) c.read.result refl (lit< tt) c.read.ensures in
+    let m = mapped_err _ c.read.result c.map_err.result c.in_err-n.field-0.0 c.map_err.ensures.cases c.in_err-n.was in
+    let is : c.in_err-n.field-0.0 ≡ Malformed c.args.line m.0 = let p = m.2 in search rules in
+    taken_err c.from_residual.result c.in_err-n.field-0.0 c.args.line m.0 (vec_items c.args.sheet.now) (texts_of ws) (vec_items c.loop-word.sheet) c.from_residual.ensures.1 is
+    (c.loop-word.invariant ∙ all_fault (texts_of ws) i (vec_items c.loop-word.sheet) m.0 h (m.1 ∙ read ∙ sym (ap (number_of max32) (texts_at ws i))))
 
 pub loop-word-preserved : goal.loop-word-preserved
 loop-word-preserved c =
@@ -19,13 +26,8 @@ loop-word-preserved c =
     let i = c.loop-word.word-index in
     let lw = length_texts ws in
     let h : i < length (texts_of ws) = omega arith in
+    let read = held 32 max32 (text_at ws i) c.read.result refl (lit< tt) c.read.ensures in
+    let n = mapped_ok _ c.read.result c.map_err.result c.in_ok-n.n c.map_err.ensures.cases c.in_ok-n.was in
     c.loop-word.invariant
-    ∙ all_more (texts_of ws) i c.in-Ok.n (vec_items c.loop-word.sheet) h (c.in-Ok.ensures.value ∙ sym (ap (number_of 4294967295) (texts_at ws i)))
-    ∙ sym (ap (λ (ns : List ℕ). after ns (all_of (drop (i + 1) (texts_of ws)))) c.in-Ok-push.ensures.items)
-
-pub returns : goal.returns
-returns c =
-    let ws = c.args.words.now in
-    let lw = length_texts ws in
-    let h : length (texts_of ws) ≤ c.loop-word.word-index = omega arith in
-    c.loop-word.invariant ∙ all_end (texts_of ws) c.loop-word.word-index (vec_items c.loop-word.sheet) h
+    ∙ all_more (texts_of ws) i c.in_ok-n.n (vec_items c.loop-word.sheet) h (n ∙ read ∙ sym (ap (number_of max32) (texts_at ws i)))
+    ∙ sym (ap (λ (ns : List ℕ). after ns (all_of (drop (i + 1) (texts_of ws)))) c.in_ok-push.ensures.items)

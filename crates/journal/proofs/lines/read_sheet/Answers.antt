@@ -1,31 +1,49 @@
-use Rattle.std.proofs.Common.{ℕ, List, ◌++◌, vec_items, sym, ap, ◌∙◌, true-eqb}
-use Rattle.journal.specs.Words.{line_of, behind_line, uncommented_of, words_of, words_in}
+use Rattle.std.proofs.Common.{◌≡◌, ℕ, List, [], ◌∷◌, length, vec_items, inl, inr, Ok, refl, sym, ap, ◌∙◌, append-nil, arith}
+use Rattle.std.specs.Iterator.Adapters.{zip_first, zip_second}
+use Rattle.journal.specs.Words.{lines_of, uncommented_of, words_in, words_of, words_of_lines}
 use Rattle.journal.specs.Numbers.{all_of, after}
-use Rattle.journal.proofs.Cuts.{words_line}
-use Rattle.journal.proofs.Eachs.{after_none, all_line, all_stop, all_empty}
+use Rattle.journal.proofs.LineCuts.{lines_bound, words_lines}
+use Rattle.journal.proofs.Eachs.{after_none, all_line, all_stop, stopped}
 use Rattle.journal.proofs.lines.read_sheet.Goals as goal
 
-pub loop-rest-init : goal.loop-rest-init
-loop-rest-init c =
-    sym (after_none (all_of (words_in c.args.text.now))) ∙ sym (ap (λ (ns : List ℕ). after ns (all_of (words_in c.args.text.now))) c.new-sheet.ensures.items)
+pub loop-before-init : goal.loop-before-init
+loop-before-init c =
+    let t = c.args.text.now in
+    let first : (zip_first c.into_iter-before-iterator.result).start ≡ 0 = rw (c.into_iter-before-iterator.ensures.into_iter_gives, c.zip-before-items.ensures.first) refl in
+    let rest : lines_of (zip_second c.into_iter-before-iterator.result).rest.now ≡ lines_of t = rw (c.into_iter-before-iterator.ensures.into_iter_gives, c.zip-before-items.ensures.second) c.of.ensures in
+    (omega (arith, lines_bound t, ap length rest), sym (after_none (all_of (words_of_lines (lines_of t)))) ∙ (λ j. after (sym c.new-sheet.ensures.items j) (all_of (words_of_lines (sym rest j)))))
 
-pub returns-in-Err : goal.returns-in-Err
-returns-in-Err c =
-    let t = c.loop-rest.rest.now in
-    let have = vec_items c.loop-rest.sheet in
-    all_stop c.in-Err.fault have (words_of (uncommented_of c.cut_line.result.0.now)) (words_in (behind_line t)) _ (words_in c.args.text.now) c.in-Err.ensures
-    (c.loop-rest.invariant
-    ∙ ap (λ (ws : List (List ℕ)). after have (all_of ws)) (words_line t)
-    ∙ sym (ap (λ (l : List ℕ). after have (all_of (words_of (uncommented_of l) ++ words_in (behind_line t)))) c.cut_line.ensures.line))
+pub loop-before-preserved : goal.loop-before-preserved
+loop-before-preserved c =
+    let s = c.in-Some.ensures.steps in
+    let have = vec_items c.loop-before.sheet in
+    let behind = words_of_lines (lines_of (zip_second c.next.new.self).rest.now) in (
+      omega (arith, c.loop-before.invariant.0, ap length s.1, s.0.0, s.0.1),
+      c.loop-before.invariant.1
+          ∙ ap (λ (ls : List (List ℕ)). after have (all_of (words_of_lines ls))) s.1
+          ∙ all_line have (vec_items c.add_line.new.sheet) (words_of (uncommented_of c.in-Some.line.now)) behind c.in_ok-add_line.ensures,
+    )
 
-pub loop-rest-preserved : goal.loop-rest-preserved
-loop-rest-preserved c =
-    let t = c.loop-rest.rest.now in
-    let have = vec_items c.loop-rest.sheet in
-    c.loop-rest.invariant
-    ∙ ap (λ (ws : List (List ℕ)). after have (all_of ws)) (words_line t)
-    ∙ all_line have (vec_items c.add_line.new.sheet) (words_of (uncommented_of (line_of t))) (words_in (behind_line t)) (sym (ap (λ (l : List ℕ). after have (all_of (words_of (uncommented_of l)))) c.cut_line.ensures.line) ∙ c.in-Ok.ensures)
-    ∙ sym (ap (λ (r : List ℕ). after (vec_items c.add_line.new.sheet) (all_of (words_in r))) c.cut_line.ensures.rest)
+pub returns-in_err-add_line : goal.returns-in_err-add_line
+returns-in_err-add_line c =
+    let s = c.in-Some.ensures.steps in
+    let t = c.args.text.now in
+    let have = vec_items c.loop-before.sheet in
+    let behind = words_of_lines (lines_of (zip_second c.next.new.self).rest.now) in
+    stopped c.from_residual.result c.in_err-add_line.field-0.0 (words_in t) c.from_residual.ensures.1
+    (all_stop c.in_err-add_line.field-0.0 have (words_of (uncommented_of c.in-Some.line.now)) behind (vec_items c.add_line.new.sheet) (words_in t) c.in_err-add_line.ensures
+    (ap all_of (words_lines t) ∙ c.loop-before.invariant.1 ∙ ap (λ (ls : List (List ℕ)). after have (all_of (words_of_lines ls))) s.1))
+
+none : {X : Type 0} (xs : List X) → length xs ≡ 0 → xs ≡ []
+none [] h = refl
+none (x ∷ xs) h = absurd (omega arith)
 
 pub returns : goal.returns
-returns c = c.loop-rest.invariant ∙ all_empty (vec_items c.loop-rest.sheet) c.loop-rest.rest.now (true-eqb _ 0 c.loop-rest-test.ensures)
+returns c =
+    let have = vec_items c.loop-before.sheet in
+    let rest = lines_of (zip_second c.loop-before.before-iterator).rest.now in
+    let end : rest ≡ [] = elim c.in-None.ensures.steps [ inl w ↦ none rest (omega (arith, c.loop-before.invariant.0, w.1.0)) | inr w ↦ w.1.0 ] in
+    ap all_of (words_lines c.args.text.now)
+    ∙ c.loop-before.invariant.1
+    ∙ ap (λ (ls : List (List ℕ)). after have (all_of (words_of_lines ls))) end
+    ∙ ap (λ (ns : List ℕ). Ok ns) (append-nil have)

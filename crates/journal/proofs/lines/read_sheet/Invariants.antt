@@ -1,10 +1,10 @@
-use Rattle.std.proofs.Common.{◌≡◌, length, vec_items}
-use Rattle.journal.specs.Words.{words_in}
+use Rattle.std.proofs.Common.{◌≡◌, ◌+◌, ◌≤◌, length, vec_items}
+use Rattle.std.specs.Iterator.Adapters.{zip_first, zip_second}
+use Rattle.journal.specs.Words.{lines_of, words_of_lines}
 use Rattle.journal.specs.Numbers.{all_of, after}
 use Rattle.journal.proofs.lines.read_sheet.Given as goal
 
-abbrev pub invariant-loop-rest : goal.invariant-loop-rest
-invariant-loop-rest l = all_of (words_in l.text) ≡ after (vec_items l.sheet) (all_of (words_in l.rest))
-
-abbrev pub decreases-loop-rest : goal.decreases-loop-rest
-decreases-loop-rest l = length l.rest
+abbrev pub invariant-loop-before : goal.invariant-loop-before
+invariant-loop-before l =
+    ((zip_first l.before-iterator).start + length (lines_of (zip_second l.before-iterator).rest.now) ≤ length l.text)
+    × (all_of (words_of_lines (lines_of l.text)) ≡ after (vec_items l.sheet) (all_of (words_of_lines (lines_of (zip_second l.before-iterator).rest.now))))

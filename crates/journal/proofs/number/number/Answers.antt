@@ -3,9 +3,5 @@ use Rattle.journal.specs.Numbers.{number_of}
 use Rattle.journal.proofs.Decimals.{number_back}
 use Rattle.journal.proofs.number.number.Goals as goal
 
-pub returns : goal.returns
-returns c =
-    record {
-      value = c.read_number.ensures;
-      back = λ n h e. c.read_number.ensures ∙ ap (number_of c.args.limit) e ∙ number_back c.args.limit n (omega arith) h;
-    }
+pub returns-clause-back : goal.returns-clause-back
+returns-clause-back c n h e = c.read_number.ensures ∙ ap (number_of c.args.limit) e ∙ number_back c.args.limit n (omega arith) h
