@@ -18,21 +18,16 @@ partly f ts i = map f (take i ts) ++ drop i ts
 length-partly : (f : Trader → Trader) (ts : List Trader) (i : ℕ) → i ≤ length ts → length (partly f ts i) ≡ length ts
 length-partly f ts i h = simp (length-append, length-map, length-take, length-drop) (omega arith)
 
-pub map_step : (f : Trader → Trader) (l₀ l : Book) (i : ℕ) (x : Trader) → i < length l₀.traders → l ≡ with_traders l₀ (partly f l₀.traders i) → x ≡ f (get_or l.traders i no_trader) → with_traders l (set l.traders i x) ≡ with_traders l₀ (partly f l₀.traders (i + 1))
-map_step f l₀ l i x h e v =
-    let ts = l₀.traders in
-    let ys = partly f ts i in
-    let inside : i < length ys = let k = length-partly f ts i (omega arith) in omega arith in
-    let y = get_or ys i no_trader in
-    let one : set ys i (f y) ≡ partly f ts (i + 1) = map_over_more f ts ys i y h refl (get_or_default ys i no_trader y inside) in
-    let P : Book → Type 0 = λ m. (w : Trader) → w ≡ f (get_or m.traders i no_trader) → with_traders m (set m.traders i w) ≡ with_traders l₀ (partly f ts (i + 1)) in
-    subst P (sym e) (λ w q. ap (λ u. with_traders l₀ (set ys i u)) q ∙ ap (with_traders l₀) one) x v
+pub map_step : (f : Trader → Trader) (ts ys : List Trader) (i : ℕ) (x : Trader) → i < length ts → ys ≡ partly f ts i → x ≡ f (get_or ys i no_trader) → set ys i x ≡ partly f ts (i + 1)
+map_step f ts ys i x h e v =
+    let zs = partly f ts i in
+    let inside : i < length zs = let k = length-partly f ts i (omega arith) in omega arith in
+    let y = get_or zs i no_trader in
+    let one : set zs i (f y) ≡ partly f ts (i + 1) = map_over_more f ts zs i y h refl (get_or_default zs i no_trader y inside) in
+    cc
 
-pub map_done : (f : Trader → Trader) (l₀ l : Book) (i : ℕ) → length l₀.traders ≤ i → l ≡ with_traders l₀ (partly f l₀.traders i) → l ≡ with_traders l₀ (map f l₀.traders)
-map_done f l₀ l i h e =
-    let ts = l₀.traders in
-    let p : partly f ts i ≡ map f ts = rw (take_all i ts h, drop_all i ts h) (append-nil (map f ts)) in
-    e ∙ ap (with_traders l₀) p
+pub map_done : (f : Trader → Trader) (ts ys : List Trader) (i : ℕ) → length ts ≤ i → ys ≡ partly f ts i → ys ≡ map f ts
+map_done f ts ys i h e = e ∙ rw (take_all i ts h, drop_all i ts h) (append-nil (map f ts))
 
 partly_at : (f : Trader → Trader) (ts : List Trader) (i : ℕ) (d : Trader) → get_or (partly f ts i) i d ≡ get_or ts i d
 partly_at f [] zero d = refl
@@ -41,11 +36,8 @@ partly_at f (t ∷ ts) zero d = refl
 partly_at f (t ∷ ts) (suc i) d = partly_at f ts i d
 
 -- what holds of trader i still holds before his turn
-pub still : (P : Trader → Type 0) (f : Trader → Trader) (l₀ l : Book) (i : ℕ) → l ≡ with_traders l₀ (partly f l₀.traders i) → P (get_or l₀.traders i no_trader) → P (get_or l.traders i no_trader)
-still P f l₀ l i e h = subst P (sym (ap (λ (m : Book). get_or m.traders i no_trader) e ∙ partly_at f l₀.traders i no_trader)) h
-
-pub metered_step : (ts : List Trader) (i a : ℕ) → i < length ts → a ≡ metered_sum (take i ts) → a + metered_at ts i ≡ metered_sum (take (i + 1) ts)
-metered_step ts i a h e = ap (λ n. n + metered_at ts i) e ∙ sym (sum_by_more (λ (t : Trader). t.metered) ts i no_trader h)
+pub still : (P : Trader → Type 0) (f : Trader → Trader) (ts ys : List Trader) (i : ℕ) → ys ≡ partly f ts i → P (get_or ts i no_trader) → P (get_or ys i no_trader)
+still P f ts ys i e h = subst P (sym (ap (λ us. get_or us i no_trader) e ∙ partly_at f ts i no_trader)) h
 
 -- the accounts of the first i traders together, one more
 pub accounts_more : (ts : List Trader) (i : ℕ) → i < length ts → all_accounts (take (i + 1) ts) ≡ all_accounts (take i ts) +ℤ account_at ts i

@@ -1,5 +1,7 @@
 // The running gas day: its tokens, its weather and its phase.
 ghost use Rattle.std.specs.Prelude.{◌≡◌};
+ghost use Rattle.ledger.specs.Days.{is_idle, is_open, is_measured, sky_in};
+ghost use Rattle.ledger.specs.Sharing.{day_quantity, day_loss};
 
 use refusals::Refusal;
 
@@ -20,6 +22,16 @@ impl OpenDay {
         ensures { result ≡ self.now.number }
     {
         self.number
+    }
+}
+
+impl MeasuredDay {
+    // The day's number, by openings from 1.
+    pub fn number(&self) -> u32
+        ensures { result ≡ self.now.number }
+    {
+        let MeasuredDay { number } = self;
+        *number
     }
 }
 
@@ -59,4 +71,59 @@ pub(crate) enum Phase {
         loss: u64,
         quantity: u64,
     },
+}
+
+impl Phase {
+    pub(crate) fn is_idle(self) -> bool
+        ensures { result ≡ is_idle self }
+    {
+        matches!(self, Phase::Idle)
+    }
+
+    // Whether the running day is open and has this number.
+    pub(crate) fn is_open(self, day: u32) -> bool
+        ensures { result ≡ is_open self day }
+    {
+        matches!(self, Phase::Open { number, .. } if number == day)
+    }
+
+    // Whether the running day is measured and has this number.
+    pub(crate) fn is_measured(self, day: u32) -> bool
+        ensures { result ≡ is_measured self day }
+    {
+        matches!(self, Phase::Measured { number, .. } if number == day)
+    }
+
+    // What the running day's opening took.
+    pub(crate) fn weather(self) -> Weather
+        ensures { result ≡ sky_in self }
+    {
+        match self {
+            Phase::Idle => Weather {
+                temperature: 0,
+                season: 0,
+            },
+            Phase::Open { weather, .. } | Phase::Measured { weather, .. } => weather,
+        }
+    }
+
+    pub(crate) fn quantity(self) -> u64
+        ensures { result ≡ day_quantity self }
+    {
+        if let Phase::Measured { quantity, .. } = self {
+            quantity
+        } else {
+            0
+        }
+    }
+
+    pub(crate) fn loss(self) -> u64
+        ensures { result ≡ day_loss self }
+    {
+        if let Phase::Measured { loss, .. } = self {
+            loss
+        } else {
+            0
+        }
+    }
 }

@@ -5,7 +5,7 @@
 mod book;
 mod day;
 mod ledger;
-mod measured;
+mod limits;
 mod point;
 mod slip;
 

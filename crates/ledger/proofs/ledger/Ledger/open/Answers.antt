@@ -1,14 +1,10 @@
-use Rattle.std.proofs.Common.{◌≡◌, refl, w16, SFits}
-use Rattle.std.proofs.lemmas.Int.{to_z-of_z}
-use Rattle.ledger.specs.Days.{open_answer, open_book}
+use Rattle.std.proofs.Common.{rules, refl, arith}
+use Rattle.std.proofs.lemmas.Grind.{common_steps}
 use Rattle.ledger.specs.History.{next}
 use Rattle.ledger.proofs.ledger.Ledger.open.Goals as goal
 
-pub returns : goal.returns
-returns c =
-    let b = c.args.self.now.book in
-    let t = c.args.temperature in
-    let f : SFits w16 t = c.ranges.temperature in
-    let answer : c.open.result ≡ open_answer b t c.args.season = simp to_z-of_z at c.open.ensures.answer in
-    let state : c.open.new.self ≡ open_book b t c.args.season = simp to_z-of_z at c.open.ensures.state in
-    record { answer = answer; state = state; run = λ s h p. next p (record { answer = answer; state = state; rows = refl }) }
+pub returns-in_err-check_opening-clause-run : goal.returns-in_err-check_opening-clause-run
+returns-in_err-check_opening-clause-run c = λ s h p. next p (record { answer = grind (arith, common_steps); state = grind (arith, common_steps); rows = refl })
+
+pub returns-clause-run : goal.returns-clause-run
+returns-clause-run c = λ s h p. next p (record { answer = grind (arith, common_steps); state = grind (arith, common_steps); rows = refl })
