@@ -1,6 +1,6 @@
 -- Lemmas on the rows of a sheet: a test of each, and what the share-out writes.
-use Rattle.std.proofs.Common.{◌≡◌, ℕ, zero, suc, ◌+◌, ◌<◌, ◌≤◌, Bool, true, ◌&&◌, ◌≢◌, List, length, get_or, set, refl, ◌∙◌, subst, ⊎_elim, add-one, arith}
-use Rattle.std.proofs.lemmas.List.{length-set, get_or-set_same, get_or-set_other}
+use Rattle.std.proofs.Common.{◌≡◌, ℕ, zero, suc, ◌+◌, ◌<◌, ◌≤◌, Bool, true, ◌&&◌, ◌≢◌, List, length, get_or, take, drop, set, ◌++◌, sym, refl, ap, ◌∙◌, subst, ⊎_elim, add-one, arith}
+use Rattle.std.proofs.lemmas.List.{length-set, length-take-le, get_or-take, get_or-set_same, get_or-set_other, set-append_left, take-append-drop}
 use Rattle.std.proofs.lemmas.Bool.{and_parts, and_from, cases_lt}
 use Rattle.profiles.specs.declared.factors.Factors.{Factors}
 use Rattle.ledger.specs.declared.point.Point.{Point}
@@ -31,6 +31,17 @@ unfolding every
 every_from test s zero f = refl
 every_from test s (suc n) f =
     and_from (every test s n) (test (row_at s n)) (every_from test s n (λ k h. f k (omega arith))) (f n (omega arith))
+
+-- a test of the first n rows, taken as a list of their own
+every_front_below : (test : Point → Bool) (s : List Point) (n k : ℕ) → k ≤ n → every test (take n s) k ≡ every test s k
+unfolding every
+every_front_below test s n zero h = refl
+every_front_below test s n (suc k) h =
+    ap (λ (b : Bool). b && test (row_at (take n s) k)) (every_front_below test s n k (omega arith))
+    ∙ ap (λ (p : Point). every test s k && test p) (get_or-take n s k no_row (omega arith))
+
+pub every_front : (test : Point → Bool) (s : List Point) (n : ℕ) → n ≤ length s → every test (take n s) (length (take n s)) ≡ every test s n
+every_front test s n h = ap (every test (take n s)) (length-take-le n s h) ∙ every_front_below test s n n (omega arith)
 
 -- The rows once their shares were written.
 
@@ -71,6 +82,19 @@ module _ (told : ℕ → Factors) (s : List Point) (shares : List ℕ) where
       let w : n < length before = omega arith in
       subst (λ (j : ℕ). row_at (set before n (x n)) j ≡ x j) e (get_or-set_same before n (x n) no_row w))
       (cases_lt k n)
+
+-- the first n rows, taken as a list of their own with its own shares
+pub shared_rows_part : (told : ℕ → Factors) (s : List Point) (shares : List ℕ) (n k : ℕ) → n ≤ length s → k ≤ n → shared_rows told (take n s) (take n shares) k ++ drop n s ≡ shared_rows told s shares k
+unfolding shared_rows
+shared_rows_part told s shares n zero r h = take-append-drop n s
+shared_rows_part told s shares n (suc k) r h =
+    let x : Point → ℕ → Point = λ p q. shared_row p q (told p.segment).multiplier in
+    let before = shared_rows told (take n s) (take n shares) k in
+    let len : length before ≡ n = length_shared_rows told (take n s) (take n shares) k ∙ length-take-le n s r in
+    sym (set-append_left before (drop n s) k (x (row_at (take n s) k) (get_or (take n shares) k 0)) (omega arith))
+    ∙ ap (λ u. set u k (x (row_at (take n s) k) (get_or (take n shares) k 0))) (shared_rows_part told s shares n k r (omega arith))
+    ∙ ap (λ (p : Point). set (shared_rows told s shares k) k (x p (get_or (take n shares) k 0))) (get_or-take n s k no_row (omega arith))
+    ∙ ap (λ (q : ℕ). set (shared_rows told s shares k) k (x (row_at s k) q)) (get_or-take n shares k 0 (omega arith))
 
 -- The open sums of a trader's points.
 

@@ -1,5 +1,5 @@
 -- The rows of a point sheet: their ranges, what a point is expected to use, and what a share-out does to a row.
-use Rattle.std.specs.Prelude.{ℕ, zero, suc, ◌+◌, ◌*◌, ◌/◌, ◌^◌, Bool, true, cond, not, ◌&&◌, List, [], ◌∷◌, map, length, Option, ◌==◌, nat_le, nat_lt, slice_index, slice_index_or, slice_set}
+use Rattle.std.specs.Prelude.{ℕ, zero, suc, ◌+◌, ◌*◌, ◌/◌, ◌^◌, ◌<◌, ◌≤◌, Bool, true, cond, not, ◌&&◌, List, [], ◌∷◌, map, length, Option, ◌==◌, nat_le, nat_lt, slice_index, slice_index_or, slice_set}
 use Rattle.refusals.specs.declared.Refusal.{Refusal}
 use Rattle.refusals.specs.declared.Refusal.TheVariants.{PointSheetLength, NoSuchPoint}
 use Rattle.profiles.specs.declared.factors.Factors.{Factors}
@@ -58,6 +58,13 @@ abbrev pub may_share : ℕ → Point → Bool
 may_share traders p =
     in_range p
     && (nat_lt p.trader traders && (nat_le p.open_sum full_open_sum && nat_le p.period_sum full_period_sum))
+
+-- what booking a share to a row asks of it: its trader is one of so many, and its sums are within their limits
+pub record Shareable (traders : ℕ) (p : Point) : Type 0 where
+  pub owned : p.trader < traders
+  pub segment : p.segment < 8
+  pub open_sum : p.open_sum ≤ max_open_sum
+  pub period_sum : p.period_sum ≤ max_period_sum
 
 -- no slip of the point is open
 abbrev pub is_free : Point → Bool

@@ -1,6 +1,6 @@
 // The ledger's record, plain and private. What always holds of it is in the type `Ledger`.
-ghost use Rattle.std.specs.Prelude.{◌≡◌, map};
-ghost use Rattle.ledger.specs.Accounts.{new_book, unmetered};
+ghost use Rattle.std.specs.Prelude.{◌≡◌, ◌≤◌, map, pos, ◌+ℤ◌, ◌≤ℤ◌};
+ghost use Rattle.ledger.specs.Accounts.{new_book, settled, unmetered};
 ghost use Rattle.ledger.specs.Days.{ended};
 
 use crate::day::Phase;
@@ -10,6 +10,25 @@ use crate::day::Phase;
 pub(crate) struct Trader {
     pub(crate) account: i64,
     pub(crate) metered: u64,
+}
+
+impl Trader {
+    // Some litres join the account.
+    pub(crate) fn credit(&mut self, litres: u64)
+        requires { (self.old.account ≤ℤ pos 6_000_000_000_000_000_000) × (litres ≤ 1_000_000_000) }
+        ensures { self.new ≡ record { account = self.old.account +ℤ pos litres; metered = self.old.metered } }
+    {
+        self.account += litres as i64;
+    }
+
+    // The metered sum of today moves to the account.
+    pub(crate) fn settle(&mut self)
+        requires { (self.old.account ≤ℤ pos 6_000_000_000_000_000_000) × (self.old.metered ≤ 1_000_000_000) }
+        ensures { self.new ≡ settled self.old }
+    {
+        self.credit(self.metered);
+        self.metered = 0;
+    }
 }
 
 // How many there have been: traders and points admitted, days opened and shared out, readings, and bookings with hand-overs.

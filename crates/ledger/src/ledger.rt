@@ -6,17 +6,13 @@ ghost use Rattle.ledger.specs.Accounts.{new_book, no_trader, Near, Sound, all_ac
 ghost use Rattle.ledger.specs.Days.{trader_fault, account_answer, metered_answer};
 ghost use Rattle.ledger.specs.Grounds.{answered};
 ghost use Rattle.ledger.specs.Rows.{sheet_fits};
-ghost use Rattle.ledger.specs.Sharing.{share_answer, share_book, share_sheet, share_uses, share_shares};
-ghost use Rattle.ledger.specs.History.{Leads, Goes, Means, Shared};
+ghost use Rattle.ledger.specs.History.{Leads};
 ghost use Rattle.ledger.specs.declared.point.Point.{Point as Row};
 
 use crate::book::{Book, Counts, Trader};
-use crate::day::{MeasuredDay, Refused, SharedOut};
 use crate::limits::MAX_POINTS;
 use crate::point::Point;
-use profiles::Profile;
 use refusals::Refusal;
-use shares::ShareRule;
 
 mod admit;
 mod days;
@@ -40,27 +36,6 @@ impl Ledger {
         Ledger {
             book: Book::new(first_day),
         }
-    }
-
-    // Shares out a measured day by a profile and a share rule. The first work sheet gets the points' profile consumptions, the
-    // second their shares.
-    pub fn share_out<P: Profile, R: ShareRule>(
-        &mut self,
-        day: MeasuredDay,
-        sheet: &mut [Point],
-        profile: &P,
-        rule: &R,
-        uses: &mut [u64],
-        shares: &mut [u64],
-    ) -> Result<SharedOut, Refused<MeasuredDay>>
-        ensures answer { result ≡ share_answer self.old.book day sheet.old (P.Profile.tells profile.now) P.Profile.segments (length uses.old) (length shares.old) }
-        ensures state { self.new.book ≡ share_book self.old.book day sheet.old (P.Profile.tells profile.now) R.ShareRule.shares P.Profile.segments (length uses.old) (length shares.old) }
-        ensures rows { sheet.new ≡ share_sheet self.old.book day sheet.old (P.Profile.tells profile.now) R.ShareRule.shares P.Profile.segments (length uses.old) (length shares.old) }
-        ensures weighed { uses.new ≡ share_uses self.old.book day sheet.old (P.Profile.tells profile.now) P.Profile.segments uses.old (length shares.old) }
-        ensures given { shares.new ≡ share_shares self.old.book day sheet.old (P.Profile.tells profile.now) R.ShareRule.shares P.Profile.segments (length uses.old) shares.old }
-        ensures run { Goes (Shared day (record { tells = P.Profile.tells profile.now; segments = P.Profile.segments; rule = R.ShareRule.shares; uses = uses.old; shares = shares.old }) result uses.new shares.new) self.old.book sheet.old self.new.book sheet.new }
-    {
-        self.book.share_out(day, sheet, profile, rule, uses, shares)
     }
 
     // The rows of the points admitted: the sheet's first ones, where it is long enough for them and not over the limit.

@@ -1,17 +1,20 @@
 // The share-out of a measured day: test the rows, weigh them, share by the rule, book. Each is one pass, and nothing allocates.
-ghost use Rattle.std.specs.Prelude.{◌≡◌, ℕ, ◌+◌, ◌*◌, ◌^◌, ◌<◌, ◌≤◌, true, ◌++◌, map, length, take, drop, pos, ◌+ℤ◌, ◌≤ℤ◌, sum};
+ghost use Rattle.std.specs.Prelude.{◌≡◌, ℕ, ◌+◌, ◌*◌, ◌^◌, ◌<◌, ◌≤◌, true, ◌++◌, map, length, take, drop, sum};
 ghost use Rattle.std.specs.List.{range_with_len};
-ghost use Rattle.ledger.specs.Accounts.{Sound, Settling, account_at, credited, credited_to, pending, settled, with_traders};
+ghost use Rattle.ledger.specs.Accounts.{Settling, credited_to, pending, settled};
+ghost use Rattle.ledger.specs.Grounds.{answered};
+ghost use Rattle.ledger.specs.History.{Goes, Means, Shared};
 ghost use Rattle.ledger.specs.Rows.{every, may_share, is_free, is_served, factors_at, row_at, profile_use, profile_uses, shared_row, shared_rows};
-ghost use Rattle.ledger.specs.Sharing.{Weighable, told_on, day_quantity, day_loss, day_uses, shared_book, share_grounds, share_answer, share_book, share_sheet, share_uses, share_shares};
+ghost use Rattle.ledger.specs.Sharing.{Creditable, Weighable, told_on, day_quantity, day_loss, day_uses, shared_book, share_grounds, share_answer, share_book, share_sheet, share_uses, share_shares};
 
-use super::sheet_fits;
-use crate::book::{Book, Trader};
+use super::Ledger;
+use crate::book::Trader;
 use crate::day::{MeasuredDay, Phase, Refused, SharedOut, Weather};
 use crate::point::Point;
 use profiles::{Factors, Profile, WHOLE};
 use refusals::Refusal;
 use shares::ShareRule;
+use std::array;
 
 // What a share-out asks of its rows, each of all of them.
 #[derive(Clone, Copy)]
@@ -21,20 +24,19 @@ struct RowTests {
     served: bool,
 }
 
-// Tests the first n rows in one pass.
-fn test_rows(sheet: &[Point], n: usize, traders: u32, segments: u32) -> RowTests
-    requires { n ≤ length sheet.now }
-    ensures share { result.may_share ≡ every (may_share traders) sheet.now n }
-    ensures free { result.free ≡ every is_free sheet.now n }
-    ensures served { result.served ≡ every (is_served segments) sheet.now n }
+// Tests the rows in one pass.
+fn test_rows(rows: &[Point], traders: u32, segments: u32) -> RowTests
+    ensures share { result.may_share ≡ every (may_share traders) rows.now (length rows.now) }
+    ensures free { result.free ≡ every is_free rows.now (length rows.now) }
+    ensures served { result.served ≡ every (is_served segments) rows.now (length rows.now) }
 {
     let mut may_share = true;
     let mut free = true;
     let mut served = true;
-    for i in 0..n {
-        may_share = may_share & sheet[i].may_share(traders);
-        free = free & (sheet[i].slip == 0);
-        served = served & (sheet[i].segment < segments);
+    for row in rows {
+        may_share &= row.may_share(traders);
+        free &= row.slip == 0;
+        served &= row.segment < segments;
     }
     RowTests {
         may_share,
@@ -54,11 +56,7 @@ struct Weighed {
 fn ask<P: Profile>(profile: &P, weather: Weather) -> [Factors; 8]
     ensures { result ≡ map (λ (k : ℕ). P.Profile.tells profile.now k weather.temperature weather.season) (range_with_len 0 8) }
 {
-    let mut told = [Factors::NONE; 8];
-    for segment in 0..8u32 {
-        told[segment as usize] = profile.tell(segment, weather.temperature, weather.season);
-    }
-    told
+    array::from_fn(|segment| profile.tell(segment as u32, weather.temperature, weather.season))
 }
 
 // A point's profile consumption.
@@ -66,21 +64,20 @@ fn profile_use(scale_factor: u32, factor: u32) -> u64
     ensures value { result ≡ profile_use scale_factor factor }
     ensures bound { result < 2 ^ 41 }
 {
-    scale_factor as u64 * factor as u64 / WHOLE as u64
+    u64::from(scale_factor) * u64::from(factor) / u64::from(WHOLE)
 }
 
-// Writes the first n rows' profile consumptions, and gives their sum.
-fn weigh(sheet: &[Point], n: usize, told: &[Factors; 8], uses: &mut [u64]) -> u64
-    requires rows { n ≤ length sheet.now }
-    requires few { n ≤ 4096 }
-    requires room { n ≤ length uses.old }
-    requires segments { (k : ℕ) → k < n → (row_at sheet.now k).segment < 8 }
-    ensures written { uses.new ≡ profile_uses (factors_at told.now) (take n sheet.now) ++ drop n uses.old }
-    ensures total { result ≡ sum (profile_uses (factors_at told.now) (take n sheet.now)) }
+// Writes the rows' profile consumptions, and gives their sum.
+fn weigh(rows: &[Point], told: &[Factors; 8], uses: &mut [u64]) -> u64
+    requires few { length rows.now ≤ 4096 }
+    requires room { length uses.old ≡ length rows.now }
+    requires segments { (k : ℕ) → k < length rows.now → (row_at rows.now k).segment < 8 }
+    ensures written { uses.new ≡ profile_uses (factors_at told.now) rows.now }
+    ensures total { result ≡ sum (profile_uses (factors_at told.now) rows.now) }
 {
     let mut total = 0;
-    for i in 0..n {
-        let row = sheet[i];
+    // Tried: a `zip` with `uses.iter_mut()`. Of what is written so a proof learns only the length.
+    for (i, row) in rows.iter().enumerate() {
         let own = profile_use(row.scale_factor, told[row.segment as usize].day);
         uses[i] = own;
         total += own;
@@ -94,39 +91,21 @@ fn divide<R: ShareRule>(rule: &R, quantity: u64, n: usize, uses: &[u64], shares:
     requires room { n ≤ length shares.old }
     ensures { shares.new ≡ R.ShareRule.shares quantity (take n uses.now) ++ drop n shares.old }
 {
-    let front = &mut shares[0..n];
-    rule.share(quantity, &uses[0..n], front);
+    let front = &mut shares[..n];
+    rule.share(quantity, &uses[..n], front);
 }
 
-// An account after some litres joined it.
-fn grow(account: i64, litres: u64) -> i64
-    requires { (account ≤ℤ pos 6_000_000_000_000_000_000) × (litres ≤ 1_000_000_000) }
-    ensures { result ≡ account +ℤ pos litres }
+// Books the shares of the rows: to their open sums and their traders' accounts; and the multipliers to their period sums.
+fn credit(traders: &mut [Trader; 64], rows: &mut [Point], told: &[Factors; 8], shares: &[u64])
+    requires { Creditable traders.old rows.old shares.now }
+    ensures traders { traders.new ≡ credited_to traders.old rows.old shares.now (length rows.old) }
+    ensures rows { rows.new ≡ shared_rows (factors_at told.now) rows.old shares.now (length rows.old) }
 {
-    account + litres as i64
-}
-
-impl Trader {
-    // With some litres joined to the account.
-    fn credited(self, litres: u64) -> Trader
-        requires { (self.account ≤ℤ pos 6_000_000_000_000_000_000) × (litres ≤ 1_000_000_000) }
-        ensures { result ≡ record { account = self.account +ℤ pos litres; metered = self.metered } }
-    {
-        Trader {
-            account: grow(self.account, litres),
-            metered: self.metered,
-        }
-    }
-
-    // With the metered sum of today moved to the account.
-    fn settled(self) -> Trader
-        requires { (self.account ≤ℤ pos 6_000_000_000_000_000_000) × (self.metered ≤ 1_000_000_000) }
-        ensures { result ≡ settled self }
-    {
-        Trader {
-            account: grow(self.account, self.metered),
-            metered: 0,
-        }
+    // Tried: a `zip` with `rows.iter_mut()`. Of what is written so a proof learns only the length.
+    for (i, share) in shares.iter().enumerate() {
+        let row = rows[i];
+        traders[row.trader as usize].credit(*share);
+        rows[i] = row.shared(*share, told[row.segment as usize]);
     }
 }
 
@@ -136,77 +115,52 @@ fn settle(traders: &mut [Trader; 64])
     ensures { traders.new ≡ map settled traders.old }
 {
     for trader in traders.iter_mut() {
-        *trader = trader.settled();
+        trader.settle();
     }
 }
 
-impl Book {
+impl Ledger {
     // The grounds of a share-out but for the last.
-    fn share_grounds<P: Profile>(
+    fn check_share_out<P: Profile>(
         &self,
         day: &MeasuredDay,
         sheet: &[Point],
         uses: usize,
         shares: usize,
-    ) -> Option<Refusal>
-        ensures { result ≡ share_grounds self.now day.now sheet.now P.Profile.segments uses shares }
+    ) -> Result<(), Refusal>
+        ensures { result ≡ answered (share_grounds self.now.book day.now sheet.now P.Profile.segments uses shares) tt }
     {
-        let n = self.counts.points;
-        if !sheet_fits(n, sheet) {
-            return Some(Refusal::PointSheetLength);
+        let rows = self.rows(sheet)?;
+        if uses.min(shares) < rows.len() {
+            return Err(Refusal::WorkSheetLength);
         }
-        if uses < n || shares < n {
-            return Some(Refusal::WorkSheetLength);
+        let tests = test_rows(rows, self.book.counts.traders, P::segments_of());
+        if !tests.may_share {
+            return Err(Refusal::ForeignSheet);
         }
-        let rows = test_rows(sheet, n, self.counts.traders, P::segments_of());
-        if !rows.may_share {
-            return Some(Refusal::ForeignSheet);
+        if !self.book.phase.is_measured(day.number) {
+            return Err(Refusal::NotRunning);
         }
-        if !self.phase.is_measured(day.number) {
-            return Some(Refusal::NotRunning);
+        if !tests.free {
+            return Err(Refusal::SlipOpenAtShareOut);
         }
-        if !rows.free {
-            return Some(Refusal::SlipOpenAtShareOut);
+        if !tests.served {
+            return Err(Refusal::SegmentNotServed);
         }
-        if !rows.served {
-            return Some(Refusal::SegmentNotServed);
-        }
-        None
-    }
-
-    fn credit_one(&mut self, trader: u32, share: u64)
-        requires { (trader < length self.old.traders) × ((share ≤ 1_000_000_000) × (account_at self.old.traders trader ≤ℤ pos 6_000_000_000_000_000_000)) }
-        ensures { self.new ≡ with_traders self.old (credited self.old.traders trader (pos share)) }
-    {
-        self.traders[trader as usize] = self.traders[trader as usize].credited(share);
-    }
-
-    // Books the shares of the first n rows: to their open sums and their traders' accounts; and the multipliers to their period sums.
-    fn credit(&mut self, sheet: &mut [Point], n: usize, told: &[Factors; 8], shares: &[u64])
-        requires sound { Sound self.old }
-        requires room { n ≤ length sheet.old }
-        requires all { n ≤ length shares.now }
-        requires rows { every (may_share self.old.counts.traders) sheet.old n ≡ true }
-        requires small { sum (take n shares.now) ≤ 1_000_000_000 }
-        ensures state { self.new ≡ with_traders self.old (credited_to self.old.traders sheet.old shares.now n) }
-        ensures rows { sheet.new ≡ shared_rows (factors_at told.now) sheet.old shares.now n }
-    {
-        for i in 0..n {
-            let row = sheet[i];
-            self.credit_one(row.trader, shares[i]);
-            sheet[i] = row.shared(shares[i], told[row.segment as usize]);
-        }
+        Ok(())
     }
 
     // Asks the profile and weighs the points: their profile consumptions come into the first places of the work sheet.
     fn weigh_day<P: Profile>(&self, sheet: &[Point], profile: &P, uses: &mut [u64]) -> Weighed
-        requires { Weighable self.now sheet.now (length uses.old) }
-        ensures told { result.told ≡ map (told_on self.now.phase (P.Profile.tells profile.now)) (range_with_len 0 8) }
-        ensures written { uses.new ≡ day_uses self.now sheet.now (P.Profile.tells profile.now) ++ drop self.now.counts.points uses.old }
-        ensures total { result.total ≡ sum (day_uses self.now sheet.now (P.Profile.tells profile.now)) }
+        requires { Weighable self.now.book sheet.now (length uses.old) }
+        ensures told { result.told ≡ map (told_on self.now.book.phase (P.Profile.tells profile.now)) (range_with_len 0 8) }
+        ensures written { uses.new ≡ day_uses self.now.book sheet.now (P.Profile.tells profile.now) ++ drop self.now.book.counts.points uses.old }
+        ensures total { result.total ≡ sum (day_uses self.now.book sheet.now (P.Profile.tells profile.now)) }
     {
-        let told = ask(profile, self.phase.weather());
-        let total = weigh(sheet, self.counts.points, &told, uses);
+        let n = self.book.counts.points;
+        let told = ask(profile, self.book.phase.weather());
+        let front = &mut uses[..n];
+        let total = weigh(&sheet[..n], &told, front);
         Weighed { told, total }
     }
 
@@ -219,26 +173,28 @@ impl Book {
         uses: &[u64],
         shares: &mut [u64],
     )
-        requires sound { Sound self.old }
-        requires weighed { Weighable self.old sheet.old (length uses.now) }
-        requires room { self.old.counts.points ≤ length shares.old }
-        requires running { pending self.old.phase ≡ 1 }
-        ensures given { shares.new ≡ R.ShareRule.shares (day_quantity self.old.phase) (take self.old.counts.points uses.now) ++ drop self.old.counts.points shares.old }
-        ensures state { self.new ≡ shared_book self.old sheet.old (R.ShareRule.shares (day_quantity self.old.phase) (take self.old.counts.points uses.now)) }
-        ensures rows { sheet.new ≡ shared_rows (factors_at told.now) sheet.old (R.ShareRule.shares (day_quantity self.old.phase) (take self.old.counts.points uses.now)) self.old.counts.points }
+        requires weighed { Weighable self.old.book sheet.old (length uses.now) }
+        requires room { self.old.book.counts.points ≤ length shares.old }
+        requires running { pending self.old.book.phase ≡ 1 }
+        ensures given { shares.new ≡ R.ShareRule.shares (day_quantity self.old.book.phase) (take self.old.book.counts.points uses.now) ++ drop self.old.book.counts.points shares.old }
+        ensures state { self.new.book ≡ shared_book self.old.book sheet.old (R.ShareRule.shares (day_quantity self.old.book.phase) (take self.old.book.counts.points uses.now)) }
+        ensures rows { sheet.new ≡ shared_rows (factors_at told.now) sheet.old (R.ShareRule.shares (day_quantity self.old.book.phase) (take self.old.book.counts.points uses.now)) self.old.book.counts.points }
     {
-        let n = self.counts.points;
-        let loss = self.phase.loss();
-        divide(rule, self.phase.quantity(), n, uses, shares);
-        self.credit(sheet, n, told, shares);
-        settle(&mut self.traders);
-        self.loss = self.loss + loss;
-        self.counts.shared = self.counts.shared + 1;
-        self.next_day = self.next_day + 1;
-        self.phase = Phase::Idle;
+        let n = self.book.counts.points;
+        let loss = self.book.phase.loss();
+        divide(rule, self.book.phase.quantity(), n, uses, shares);
+        let rows = &mut sheet[..n];
+        credit(&mut self.book.traders, rows, told, &shares[..n]);
+        settle(&mut self.book.traders);
+        self.book.loss += loss;
+        self.book.counts.shared += 1;
+        self.book.next_day += 1;
+        self.book.phase = Phase::Idle;
     }
 
-    pub(crate) fn share_out<P: Profile, R: ShareRule>(
+    // Shares out a measured day by a profile and a share rule. The first work sheet gets the points' profile consumptions, the
+    // second their shares.
+    pub fn share_out<P: Profile, R: ShareRule>(
         &mut self,
         day: MeasuredDay,
         sheet: &mut [Point],
@@ -247,35 +203,32 @@ impl Book {
         uses: &mut [u64],
         shares: &mut [u64],
     ) -> Result<SharedOut, Refused<MeasuredDay>>
-        requires { Sound self.old }
-        ensures answer { result ≡ share_answer self.old day sheet.old (P.Profile.tells profile.now) P.Profile.segments (length uses.old) (length shares.old) }
-        ensures state { self.new ≡ share_book self.old day sheet.old (P.Profile.tells profile.now) R.ShareRule.shares P.Profile.segments (length uses.old) (length shares.old) }
-        ensures rows { sheet.new ≡ share_sheet self.old day sheet.old (P.Profile.tells profile.now) R.ShareRule.shares P.Profile.segments (length uses.old) (length shares.old) }
-        ensures weighed { uses.new ≡ share_uses self.old day sheet.old (P.Profile.tells profile.now) P.Profile.segments uses.old (length shares.old) }
-        ensures given { shares.new ≡ share_shares self.old day sheet.old (P.Profile.tells profile.now) R.ShareRule.shares P.Profile.segments (length uses.old) shares.old }
-        ensures sound { Sound self.new }
+        ensures answer { result ≡ share_answer self.old.book day sheet.old (P.Profile.tells profile.now) P.Profile.segments (length uses.old) (length shares.old) }
+        ensures state { self.new.book ≡ share_book self.old.book day sheet.old (P.Profile.tells profile.now) R.ShareRule.shares P.Profile.segments (length uses.old) (length shares.old) }
+        ensures rows { sheet.new ≡ share_sheet self.old.book day sheet.old (P.Profile.tells profile.now) R.ShareRule.shares P.Profile.segments (length uses.old) (length shares.old) }
+        ensures weighed { uses.new ≡ share_uses self.old.book day sheet.old (P.Profile.tells profile.now) P.Profile.segments uses.old (length shares.old) }
+        ensures given { shares.new ≡ share_shares self.old.book day sheet.old (P.Profile.tells profile.now) R.ShareRule.shares P.Profile.segments (length uses.old) shares.old }
+        ensures run { Goes (Shared day (record { tells = P.Profile.tells profile.now; segments = P.Profile.segments; rule = R.ShareRule.shares; uses = uses.old; shares = shares.old }) result uses.new shares.new) self.old.book sheet.old self.new.book sheet.new }
     {
-        match self.share_grounds::<P>(&day, sheet, uses.len(), shares.len()) {
-            Some(why) => Err(Refused { why, token: day }),
-            None => {
-                let quantity = self.phase.quantity();
-                let loss = self.phase.loss();
-                let Weighed { told, total } = self.weigh_day(sheet, profile, uses);
-                if quantity > 0 && total == 0 {
-                    return Err(Refused {
-                        why: Refusal::NoWeight,
-                        token: day,
-                    });
-                }
-                self.close_day(sheet, rule, &told, uses, shares);
-                let MeasuredDay { number: _ } = day;
-                Ok(SharedOut {
-                    quantity,
-                    total,
-                    loss,
-                })
-            }
+        if let Err(why) = self.check_share_out::<P>(&day, sheet, uses.len(), shares.len()) {
+            return Err(Refused { why, token: day });
         }
+        let quantity = self.book.phase.quantity();
+        let loss = self.book.phase.loss();
+        let Weighed { told, total } = self.weigh_day(sheet, profile, uses);
+        if quantity > 0 && total == 0 {
+            return Err(Refused {
+                why: Refusal::NoWeight,
+                token: day,
+            });
+        }
+        self.close_day(sheet, rule, &told, uses, shares);
+        let MeasuredDay { number: _ } = day;
+        Ok(SharedOut {
+            quantity,
+            total,
+            loss,
+        })
     }
 }
 
@@ -287,7 +240,7 @@ impl Point {
     {
         Point {
             open_sum: self.open_sum + share,
-            period_sum: self.period_sum + told.multiplier as u64,
+            period_sum: self.period_sum + u64::from(told.multiplier),
             ..self
         }
     }

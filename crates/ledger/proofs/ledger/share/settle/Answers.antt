@@ -5,8 +5,8 @@ use Rattle.ledger.specs.Limits.{max_litres}
 use Rattle.ledger.proofs.Loops.{map_step, map_done, still}
 use Rattle.ledger.proofs.ledger.share.settle.Goals as goal
 
-pub settled-requires : goal.settled-requires
-settled-requires c =
+pub settle-requires : goal.settle-requires
+settle-requires c =
     let i = c.loop-trader.trader-index in
     let ts = c.args.traders.now in
     let ys = c.loop-trader.traders in (
@@ -15,7 +15,7 @@ settled-requires c =
     )
 
 pub loop-trader-preserved : goal.loop-trader-preserved
-loop-trader-preserved c = map_step settled c.args.traders.now c.loop-trader.traders c.loop-trader.trader-index _ (omega arith) c.loop-trader.invariant c.settled.ensures
+loop-trader-preserved c = map_step settled c.args.traders.now c.loop-trader.traders c.loop-trader.trader-index _ (omega arith) c.loop-trader.invariant c.settle.ensures
 
 pub returns : goal.returns
 returns c = map_done settled c.args.traders.now c.loop-trader.traders c.loop-trader.trader-index (omega arith) c.loop-trader.invariant
