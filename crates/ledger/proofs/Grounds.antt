@@ -1,5 +1,5 @@
 -- What is known of a call where no ground of refusal is met, and what holds after one that may be refused.
-use Rattle.std.proofs.Common.{◌≡◌, ℕ, Bool, true, false, cond, Some, None, Ok, Err, Option, refl, arith}
+use Rattle.std.proofs.Common.{◌≡◌, ℕ, Bool, true, false, cond, Some, None, Ok, Err, Option, sym, refl, ap, arith}
 use Rattle.refusals.specs.declared.Refusal.{Refusal}
 use Rattle.ledger.specs.Grounds.{answered, unless}
 
@@ -27,3 +27,9 @@ refused_by (Some v) x w e = cc
 pub passed_by : {A : Type 0} (f : Option Refusal) (x y : A) → Ok y ≡ answered f x → (f ≡ None) × (y ≡ x)
 passed_by None x y e = (refl, cc)
 passed_by (Some v) x y e = cc
+
+-- a call that its test refuses answers so, and changes nothing
+pub stays : {A B X : Type 0} (f : Option Refusal) (y : B) (x : A) (new old : X) (w : Refusal) → Err w ≡ answered f y → (Err w ≡ answered f x) × (old ≡ unless f new old)
+stays f y x new old w e =
+    let some = refused_by f y w e in
+    (sym (ap (λ (o : Option Refusal). answered o x) some), sym (ap (λ (o : Option Refusal). unless o new old) some))

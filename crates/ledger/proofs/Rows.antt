@@ -1,10 +1,16 @@
 -- Lemmas on the rows of a sheet: a test of each, and what the share-out writes.
-use Rattle.std.proofs.Common.{◌≡◌, ℕ, zero, suc, ◌+◌, ◌<◌, ◌≤◌, Bool, true, ◌&&◌, ◌≢◌, List, length, get_or, take, drop, set, ◌++◌, sym, refl, ap, ◌∙◌, subst, ⊎_elim, add-one, arith}
+use Rattle.std.proofs.Common.{◌≡◌, ℕ, zero, suc, ◌+◌, ◌*◌, ◌<◌, ◌≤◌, Bool, true, ◌&&◌, leb, ◌≢◌, List, [], ◌∷◌, sum_by, length, get_or, take, drop, set, ◌++◌, sym, refl, ap, ◌∙◌, subst, ⊎_elim, add-one, arith}
 use Rattle.std.proofs.lemmas.List.{length-set, length-take-le, get_or-take, get_or-set_same, get_or-set_other, set-append_left, take-append-drop}
-use Rattle.std.proofs.lemmas.Bool.{and_parts, and_from, cases_lt}
+use Rattle.std.specs.List.{list_all}
+use Rattle.std.proofs.lemmas.List.{take_more}
+use Rattle.std.proofs.lemmas.List.Sums.{sum_by-cons, sum_by_more}
+use Rattle.std.proofs.lemmas.List.Recursion.{and_push}
+use Rattle.std.proofs.lemmas.Bool.{leb-true, and_parts, and_from, cases_lt}
 use Rattle.profiles.specs.declared.factors.Factors.{Factors}
 use Rattle.ledger.specs.declared.point.Point.{Point}
-use Rattle.ledger.specs.Rows.{row_at, no_row, every, shared_row, shared_rows, open_sums, open_sum_of}
+use Rattle.ledger.specs.Limits.{max_open_sum}
+use Rattle.ledger.proofs.Ranges.{open_sum_small}
+use Rattle.ledger.specs.Rows.{row_at, no_row, sheet_fits, every, summable, shared_row, shared_rows, open_sums, open_sum_of}
 
 -- A test of each row.
 
@@ -42,6 +48,11 @@ every_front_below test s n (suc k) h =
 
 pub every_front : (test : Point → Bool) (s : List Point) (n : ℕ) → n ≤ length s → every test (take n s) (length (take n s)) ≡ every test s n
 every_front test s n h = ap (every test (take n s)) (length-take-le n s h) ∙ every_front_below test s n n (omega arith)
+
+pub tested : (test : Point → Bool) (s rows : List Point) (n : ℕ) (b : Bool) → sheet_fits n s ≡ true → rows ≡ take n s → b ≡ every test rows (length rows) → b ≡ every test s n
+tested test s rows n b fits e t =
+    let room : n ≤ length s = leb-true _ _ (and_parts (leb n (length s)) _ fits).0 in
+    t ∙ ap (λ (u : List Point). every test u (length u)) e ∙ every_front test s n room
 
 -- The rows once their shares were written.
 
@@ -105,3 +116,28 @@ open_sums_none t s = refl
 pub open_sums_more : (t : ℕ) (s : List Point) (i : ℕ) → open_sums t s i + open_sum_of t (row_at s i) ≡ open_sums t s (i + 1)
 unfolding open_sums
 open_sums_more t s i = rw add-one refl
+
+-- they are the sum over the first n rows, taken as a list of their own
+pub open_sums_front : (t : ℕ) (s : List Point) (n : ℕ) → n ≤ length s → sum_by (open_sum_of t) (take n s) ≡ open_sums t s n
+unfolding open_sums
+open_sums_front t s zero h = refl
+open_sums_front t s (suc n) h =
+    rw (← add-one) (sum_by_more (open_sum_of t) s n no_row (omega arith) ∙ ap (λ (k : ℕ). k + open_sum_of t (row_at s n)) (open_sums_front t s n (omega arith)))
+
+pub all_front : (test : Point → Bool) (s : List Point) (n : ℕ) → n ≤ length s → list_all test (take n s) ≡ every test s n
+unfolding every
+all_front test s zero h = refl
+all_front test s (suc n) h =
+    rw (← add-one) (ap (list_all test) (take_more s n no_row (omega arith)) ∙ and_push (list_all test) test refl (λ _ _. refl) (take n s) (row_at s n)
+    ∙ ap (λ (b : Bool). b && test (row_at s n)) (all_front test s n (omega arith)))
+
+-- rows that can be summed for a trader have open sums within their limit
+pub open_sums_small : (t : ℕ) (rows : List Point) → list_all (summable t) rows ≡ true → sum_by (open_sum_of t) rows ≤ length rows * max_open_sum
+open_sums_small t [] e = omega arith
+open_sums_small t (p ∷ ps) e =
+    let both = and_parts (summable t p) (list_all (summable t) ps) e in
+    let c = sum_by-cons (open_sum_of t) p ps in
+    let a = open_sum_small t p both.0 in
+    let b = open_sums_small t ps both.1 in
+    let r : sum_by (open_sum_of t) (p ∷ ps) ≤ length (p ∷ ps) * max_open_sum = omega arith in
+    r

@@ -9,7 +9,7 @@ use Rattle.ledger.specs.declared.book.Trader.{Trader}
 use Rattle.ledger.specs.declared.day.MeasuredDay.{MeasuredDay}
 use Rattle.ledger.specs.declared.day.Phase.{Phase}
 use Rattle.ledger.specs.declared.day.Phase.TheVariants.{Idle, Open, Measured}
-use Rattle.ledger.specs.declared.day.Refused.{Refused}
+use Rattle.refusals.specs.declared.Refused.{Refused}
 use Rattle.ledger.specs.declared.day.SharedOut.{SharedOut}
 use Rattle.ledger.specs.declared.point.Point.{Point}
 use Rattle.ledger.specs.Accounts.{Near, account_at, credited_to, settled}

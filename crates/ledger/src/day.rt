@@ -3,7 +3,7 @@ ghost use Rattle.std.specs.Prelude.{◌≡◌};
 ghost use Rattle.ledger.specs.Days.{is_idle, is_open, is_measured, sky_in};
 ghost use Rattle.ledger.specs.Sharing.{day_quantity, day_loss};
 
-use refusals::Refusal;
+use profiles::Weather;
 
 // The right to enter into the running day and to take its inflow. It is only a number, cannot be copied, and has to be ended:
 // a day that is let go does not compile.
@@ -35,25 +35,12 @@ impl MeasuredDay {
     }
 }
 
-// A refusal hands the token back.
-pub struct Refused<T> {
-    pub why: Refusal,
-    pub token: T,
-}
-
 // What a share-out tells: the quantity shared, the sum of the profile consumptions, and the loss.
 #[derive(Clone, Copy, PartialEq, Debug)]
 pub struct SharedOut {
     pub quantity: u64,
     pub total: u64,
     pub loss: u64,
-}
-
-// What a day's opening took.
-#[derive(Clone, Copy)]
-pub(crate) struct Weather {
-    pub(crate) temperature: i16,
-    pub(crate) season: u8,
 }
 
 // How far the running day has come. A measured day's quantity, loss and metered litres are its inflow.

@@ -11,6 +11,7 @@ use crate::trouble::Trouble;
 use journal::call::Call;
 use journal::kind::{Kind, Rule};
 use ledger::{Ledger, Particulars, Point, SharedOut};
+use profiles::Weather;
 use refusals::Refusal;
 use shares::{LargestRemainder, Running, ShareRule};
 use std::alloc::{AllocError, Global};
@@ -476,7 +477,10 @@ impl Player {
                 season,
             } => {
                 let day = station.ledger().next_day();
-                let (station, told) = station.open(temperature, season);
+                let (station, told) = station.open(Weather {
+                    temperature,
+                    season,
+                });
                 (station, written(self.tell_open(line, told, day, report)))
             }
             Call::Inflow { litres, rate } => {

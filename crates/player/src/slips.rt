@@ -97,8 +97,8 @@ impl Slips {
         };
         match station.book(sheet, slip) {
             Ok(correction) => Ok(correction),
-            Err(Refused { why, token }) => {
-                self.open.push_reserved(token);
+            Err(Refused { why, given }) => {
+                self.open.push_reserved(given);
                 Err(why)
             }
         }
@@ -120,8 +120,8 @@ impl Slips {
         };
         match station.hand_over(sheet, slip, trader) {
             Ok(correction) => Ok(correction),
-            Err(Refused { why, token }) => {
-                self.open.push_reserved(token);
+            Err(Refused { why, given }) => {
+                self.open.push_reserved(given);
                 Err(why)
             }
         }
@@ -140,8 +140,8 @@ impl Slips {
         let number = slip.number();
         match ledger.withdraw(sheet, slip) {
             Ok(()) => Ok(number),
-            Err(Refused { why, token }) => {
-                self.open.push_reserved(token);
+            Err(Refused { why, given }) => {
+                self.open.push_reserved(given);
                 Err(why)
             }
         }
@@ -155,8 +155,8 @@ impl Slips {
         while let Some(slip) = open.pop() {
             match ledger.withdraw(sheet, slip) {
                 Ok(()) => {}
-                Err(Refused { why: _, token }) => {
-                    open.push_reserved(token);
+                Err(Refused { why: _, given }) => {
+                    open.push_reserved(given);
                     return Err(Slips { open });
                 }
             }

@@ -7,7 +7,7 @@ ghost use Rattle.player.specs.Running.{tied, open_day, opened, measured, entry_t
 ghost use Rattle.ledger.specs.Sharing.{share_answer, share_book, share_sheet, share_shares};
 
 use ledger::{Ledger, MeasuredDay, OpenDay, Particulars, Point, Refused, SharedOut, Slip};
-use profiles::{Profile, in_range};
+use profiles::{Profile, Weather};
 use refusals::Refusal;
 use shares::ShareRule;
 
@@ -107,16 +107,16 @@ impl Station {
     }
 
     // Opens a day: its number by openings.
-    pub(crate) fn open(self, temperature: i16, season: u8) -> (Station, Result<u32, Refusal>)
-        ensures answer { result.1 ≡ opened (open_answer self.ledger.book temperature season) }
-        ensures state { result.0.ledger.book ≡ open_book self.ledger.book temperature season }
+    pub(crate) fn open(self, weather: Weather) -> (Station, Result<u32, Refusal>)
+        ensures answer { result.1 ≡ opened (open_answer self.ledger.book weather.temperature weather.season) }
+        ensures state { result.0.ledger.book ≡ open_book self.ledger.book weather.temperature weather.season }
     {
         let Station {
             mut ledger,
             running,
         } = self;
         match running {
-            Running::Idle => match ledger.open(temperature, season) {
+            Running::Idle => match ledger.open(weather) {
                 Ok(day) => {
                     let number = day.number();
                     let running = Running::Open(day);
@@ -128,7 +128,7 @@ impl Station {
                 }
             },
             running => {
-                let why = if in_range(temperature, season) {
+                let why = if weather.is_in_range() {
                     Refusal::DayRunning
                 } else {
                     Refusal::Weather
@@ -179,8 +179,8 @@ impl Station {
                         (Station { ledger, running }, Ok(number))
                     }
                     Err(back) => {
-                        let Refused { why, token } = back;
-                        let running = Running::Open(token);
+                        let Refused { why, given } = back;
+                        let running = Running::Open(given);
                         (Station { ledger, running }, Err(why))
                     }
                 }
@@ -205,10 +205,10 @@ impl Station {
         uses: &mut [u64],
         shares: &mut [u64],
     ) -> (Station, Result<SharedOut, Refusal>)
-        ensures answer { result.1 ≡ shared_told self.running (length sheet.old) (λ d. share_answer self.ledger.book d sheet.old (P.Profile.tells profile.now) P.Profile.segments (length uses.old) (length shares.old)) }
-        ensures state { result.0.ledger.book ≡ on_measured self.running self.ledger.book (λ d. share_book self.ledger.book d sheet.old (P.Profile.tells profile.now) R.ShareRule.shares P.Profile.segments (length uses.old) (length shares.old)) }
-        ensures rows { sheet.new ≡ on_measured self.running sheet.old (λ d. share_sheet self.ledger.book d sheet.old (P.Profile.tells profile.now) R.ShareRule.shares P.Profile.segments (length uses.old) (length shares.old)) }
-        ensures given { shares.new ≡ on_measured self.running shares.old (λ d. share_shares self.ledger.book d sheet.old (P.Profile.tells profile.now) R.ShareRule.shares P.Profile.segments (length uses.old) shares.old) }
+        ensures answer { result.1 ≡ shared_told self.running (length sheet.old) (λ d. share_answer self.ledger.book d sheet.old (P.Profile.tells profile.now) P.Profile.SEGMENTS (length uses.old) (length shares.old)) }
+        ensures state { result.0.ledger.book ≡ on_measured self.running self.ledger.book (λ d. share_book self.ledger.book d sheet.old (P.Profile.tells profile.now) R.ShareRule.shares P.Profile.SEGMENTS (length uses.old) (length shares.old)) }
+        ensures rows { sheet.new ≡ on_measured self.running sheet.old (λ d. share_sheet self.ledger.book d sheet.old (P.Profile.tells profile.now) R.ShareRule.shares P.Profile.SEGMENTS (length uses.old) (length shares.old)) }
+        ensures given { shares.new ≡ on_measured self.running shares.old (λ d. share_shares self.ledger.book d sheet.old (P.Profile.tells profile.now) R.ShareRule.shares P.Profile.SEGMENTS (length uses.old) shares.old) }
     {
         let Station {
             mut ledger,
@@ -223,8 +223,8 @@ impl Station {
                     (Station { ledger, running }, Ok(told))
                 }
                 Err(back) => {
-                    let Refused { why, token } = back;
-                    let running = Running::Measured(token);
+                    let Refused { why, given } = back;
+                    let running = Running::Measured(given);
                     (Station { ledger, running }, Err(why))
                 }
             },

@@ -8,16 +8,16 @@ ghost use Rattle.ledger.specs.History.{Goes, Opened, Entered, InflowTaken, OpenA
 ghost use Rattle.ledger.specs.declared.point.Point.{Point as Row};
 
 use super::Ledger;
-use crate::day::{MeasuredDay, OpenDay, Phase, Refused, Weather};
+use crate::day::{MeasuredDay, OpenDay, Phase};
 use crate::limits::{LAST_DAY, MAX_LITRES, MAX_OPENED, MAX_RATE, MAX_SHARED};
-use profiles::in_range;
-use refusals::Refusal;
+use profiles::Weather;
+use refusals::{Refusal, Refused};
 
 impl Ledger {
     fn check_opening(&self, weather: Weather) -> Result<(), Refusal>
         ensures { result ≡ answered (open_fault self.now.book weather.temperature weather.season) tt }
     {
-        if !in_range(weather.temperature, weather.season) {
+        if !weather.is_in_range() {
             return Err(Refusal::Weather);
         }
         if !self.book.phase.is_idle() {
@@ -32,16 +32,12 @@ impl Ledger {
         Ok(())
     }
 
-    // Opens a day at a temperature in tenths of a degree and a season.
-    pub fn open(&mut self, temperature: i16, season: u8) -> Result<OpenDay, Refusal>
-        ensures answer { result ≡ open_answer self.old.book temperature season }
-        ensures state { self.new.book ≡ open_book self.old.book temperature season }
-        ensures run { (s : List Row) → Goes (Opened temperature season result) self.old.book s self.new.book s }
+    // Opens a day, whose weather is the temperature in tenths of a degree and the season.
+    pub fn open(&mut self, weather: Weather) -> Result<OpenDay, Refusal>
+        ensures answer { result ≡ open_answer self.old.book weather.temperature weather.season }
+        ensures state { self.new.book ≡ open_book self.old.book weather.temperature weather.season }
+        ensures run { (s : List Row) → Goes (Opened weather.temperature weather.season result) self.old.book s self.new.book s }
     {
-        let weather = Weather {
-            temperature,
-            season,
-        };
         self.check_opening(weather)?;
         let number = self.book.counts.opened + 1;
         self.book.counts.opened = number;
@@ -111,7 +107,7 @@ impl Ledger {
         ensures run { (s : List Row) → Goes (InflowTaken day inflow rate result) self.old.book s self.new.book s }
     {
         if let Err(why) = self.check_inflow(&day, inflow, rate) {
-            return Err(Refused { why, token: day });
+            return Err(Refused { why, given: day });
         }
         let loss = loss_of(inflow, rate);
         let quantity = inflow - loss - self.metered_sum();
@@ -136,7 +132,7 @@ impl Ledger {
         if !self.book.phase.is_open(day.number) {
             return Err(Refused {
                 why: Refusal::NotRunning,
-                token: day,
+                given: day,
             });
         }
         let OpenDay { number: _ } = day;
@@ -153,7 +149,7 @@ impl Ledger {
         if !self.book.phase.is_measured(day.number) {
             return Err(Refused {
                 why: Refusal::NotRunning,
-                token: day,
+                given: day,
             });
         }
         let MeasuredDay { number: _ } = day;

@@ -1,36 +1,26 @@
 // The open quantity of a trader.
-ghost use Rattle.std.specs.Prelude.{◌≡◌, ◌+◌, ◌*◌, ◌≤◌, true, length};
+ghost use Rattle.std.specs.Prelude.{◌≡◌, ◌^◌, ◌<◌, sum_by};
+ghost use Rattle.std.specs.List.{list_all};
 ghost use Rattle.ledger.specs.Days.{open_quantity_answer};
-ghost use Rattle.ledger.specs.Rows.{every, summable, open_sums};
+ghost use Rattle.ledger.specs.Rows.{summable, open_sum_of};
 
-use super::{Ledger, sheet_fits};
+use super::Ledger;
 use crate::point::Point;
 use refusals::Refusal;
 
-// Whether the trader's rows among the first n lie within their ranges.
-fn his_rows_fit(sheet: &[Point], n: usize, trader: u32) -> bool
-    requires { n ≤ length sheet.now }
-    ensures { result ≡ every (summable trader) sheet.now n }
+// Whether the trader's rows lie within their ranges.
+fn his_rows_fit(rows: &[Point], trader: u32) -> bool
+    ensures { result ≡ list_all (summable trader) rows.now }
 {
-    let mut fit = true;
-    for i in 0..n {
-        fit = fit & sheet[i].is_summable(trader);
-    }
-    fit
+    rows.iter().all(|row| row.is_summable(trader))
 }
 
-// The open sums of the trader's rows among the first n.
-fn open_sums(sheet: &[Point], n: usize, trader: u32) -> u64
-    requires inside { n ≤ length sheet.now }
-    requires few { n ≤ 4096 }
-    requires fit { every (summable trader) sheet.now n ≡ true }
-    ensures { result ≡ open_sums trader sheet.now n }
+// The open sums of the trader's rows.
+fn open_sums(rows: &[Point], trader: u32) -> u64
+    requires { sum_by (open_sum_of trader) rows.now < 2 ^ 64 }
+    ensures { result ≡ sum_by (open_sum_of trader) rows.now }
 {
-    let mut all = 0;
-    for i in 0..n {
-        all += sheet[i].open_sum_of(trader);
-    }
-    all
+    rows.iter().map(|row| row.open_sum_of(trader)).sum()
 }
 
 impl Ledger {
@@ -38,14 +28,11 @@ impl Ledger {
     pub fn open_quantity(&self, sheet: &[Point], trader: u32) -> Result<u64, Refusal>
         ensures { result ≡ open_quantity_answer self.now.book sheet.now trader }
     {
-        let n = self.book.counts.points;
-        if !sheet_fits(n, sheet) {
-            return Err(Refusal::PointSheetLength);
-        }
+        let rows = self.rows(sheet)?;
         self.trader(trader)?;
-        if !his_rows_fit(sheet, n, trader) {
+        if !his_rows_fit(rows, trader) {
             return Err(Refusal::ForeignSheet);
         }
-        Ok(open_sums(sheet, n, trader))
+        Ok(open_sums(rows, trader))
     }
 }

@@ -8,12 +8,11 @@ ghost use Rattle.ledger.specs.Readings.{hand_fault, hand_answer, hand_book, hand
 ghost use Rattle.ledger.specs.Rows.{in_range, row_fault, row_at};
 
 use super::Ledger;
-use crate::day::Refused;
 use crate::limits::{MAX_READINGS, MAX_SCALE};
 use crate::point::{Point, dial_end};
 use crate::slip::Slip;
 use profiles::WHOLE;
-use refusals::Refusal;
+use refusals::{Refusal, Refused};
 
 // What a dial has turned between two readings.
 fn dial_turned(digits: u32, old: u32, new: u32) -> u32
@@ -183,7 +182,7 @@ impl Ledger {
         ensures run { Goes (Booked slip result) self.old.book sheet.old self.new.book sheet.new }
     {
         match self.bookable(sheet, &slip) {
-            Err(why) => Err(Refused { why, token: slip }),
+            Err(why) => Err(Refused { why, given: slip }),
             Ok(row) => {
                 let Slip { number: _, point } = slip;
                 let by = self.book_row(row);
@@ -219,7 +218,7 @@ impl Ledger {
         ensures run { Goes (HandedOver slip trader result) self.old.book sheet.old self.new.book sheet.new }
     {
         match self.transferable(sheet, &slip, trader) {
-            Err(why) => Err(Refused { why, token: slip }),
+            Err(why) => Err(Refused { why, given: slip }),
             Ok(row) => {
                 let Slip { number: _, point } = slip;
                 let by = self.book_row(row);
@@ -247,7 +246,7 @@ impl Ledger {
         ensures run { Goes (Withdrawn slip result) self.now.book sheet.old self.now.book sheet.new }
     {
         match self.withdrawable(sheet, &slip) {
-            Err(why) => Err(Refused { why, token: slip }),
+            Err(why) => Err(Refused { why, given: slip }),
             Ok(row) => {
                 let Slip { number: _, point } = slip;
                 sheet[point] = row.with_slip(0, 0);

@@ -9,10 +9,10 @@ ghost use Rattle.ledger.specs.Sharing.{Creditable, Weighable, told_on, day_quant
 
 use super::Ledger;
 use crate::book::Trader;
-use crate::day::{MeasuredDay, Phase, Refused, SharedOut, Weather};
+use crate::day::{MeasuredDay, Phase, SharedOut};
 use crate::point::Point;
-use profiles::{Factors, Profile, WHOLE};
-use refusals::Refusal;
+use profiles::{Factors, Profile, WHOLE, Weather};
+use refusals::{Refusal, Refused};
 use shares::ShareRule;
 use std::array;
 
@@ -56,7 +56,7 @@ struct Weighed {
 fn ask<P: Profile>(profile: &P, weather: Weather) -> [Factors; 8]
     ensures { result ≡ map (λ (k : ℕ). P.Profile.tells profile.now k weather.temperature weather.season) (range_with_len 0 8) }
 {
-    array::from_fn(|segment| profile.tell(segment as u32, weather.temperature, weather.season))
+    array::from_fn(|segment| profile.tell(segment as u32, weather))
 }
 
 // A point's profile consumption.
@@ -128,13 +128,13 @@ impl Ledger {
         uses: usize,
         shares: usize,
     ) -> Result<(), Refusal>
-        ensures { result ≡ answered (share_grounds self.now.book day.now sheet.now P.Profile.segments uses shares) tt }
+        ensures { result ≡ answered (share_grounds self.now.book day.now sheet.now P.Profile.SEGMENTS uses shares) tt }
     {
         let rows = self.rows(sheet)?;
-        if uses.min(shares) < rows.len() {
+        if uses < rows.len() || shares < rows.len() {
             return Err(Refusal::WorkSheetLength);
         }
-        let tests = test_rows(rows, self.book.counts.traders, P::segments_of());
+        let tests = test_rows(rows, self.book.counts.traders, P::SEGMENTS);
         if !tests.may_share {
             return Err(Refusal::ForeignSheet);
         }
@@ -203,15 +203,15 @@ impl Ledger {
         uses: &mut [u64],
         shares: &mut [u64],
     ) -> Result<SharedOut, Refused<MeasuredDay>>
-        ensures answer { result ≡ share_answer self.old.book day sheet.old (P.Profile.tells profile.now) P.Profile.segments (length uses.old) (length shares.old) }
-        ensures state { self.new.book ≡ share_book self.old.book day sheet.old (P.Profile.tells profile.now) R.ShareRule.shares P.Profile.segments (length uses.old) (length shares.old) }
-        ensures rows { sheet.new ≡ share_sheet self.old.book day sheet.old (P.Profile.tells profile.now) R.ShareRule.shares P.Profile.segments (length uses.old) (length shares.old) }
-        ensures weighed { uses.new ≡ share_uses self.old.book day sheet.old (P.Profile.tells profile.now) P.Profile.segments uses.old (length shares.old) }
-        ensures given { shares.new ≡ share_shares self.old.book day sheet.old (P.Profile.tells profile.now) R.ShareRule.shares P.Profile.segments (length uses.old) shares.old }
-        ensures run { Goes (Shared day (record { tells = P.Profile.tells profile.now; segments = P.Profile.segments; rule = R.ShareRule.shares; uses = uses.old; shares = shares.old }) result uses.new shares.new) self.old.book sheet.old self.new.book sheet.new }
+        ensures answer { result ≡ share_answer self.old.book day sheet.old (P.Profile.tells profile.now) P.Profile.SEGMENTS (length uses.old) (length shares.old) }
+        ensures state { self.new.book ≡ share_book self.old.book day sheet.old (P.Profile.tells profile.now) R.ShareRule.shares P.Profile.SEGMENTS (length uses.old) (length shares.old) }
+        ensures rows { sheet.new ≡ share_sheet self.old.book day sheet.old (P.Profile.tells profile.now) R.ShareRule.shares P.Profile.SEGMENTS (length uses.old) (length shares.old) }
+        ensures weighed { uses.new ≡ share_uses self.old.book day sheet.old (P.Profile.tells profile.now) P.Profile.SEGMENTS uses.old (length shares.old) }
+        ensures given { shares.new ≡ share_shares self.old.book day sheet.old (P.Profile.tells profile.now) R.ShareRule.shares P.Profile.SEGMENTS (length uses.old) shares.old }
+        ensures run { Goes (Shared day (record { tells = P.Profile.tells profile.now; segments = P.Profile.SEGMENTS; rule = R.ShareRule.shares; uses = uses.old; shares = shares.old }) result uses.new shares.new) self.old.book sheet.old self.new.book sheet.new }
     {
         if let Err(why) = self.check_share_out::<P>(&day, sheet, uses.len(), shares.len()) {
-            return Err(Refused { why, token: day });
+            return Err(Refused { why, given: day });
         }
         let quantity = self.book.phase.quantity();
         let loss = self.book.phase.loss();
@@ -219,7 +219,7 @@ impl Ledger {
         if quantity > 0 && total == 0 {
             return Err(Refused {
                 why: Refusal::NoWeight,
-                token: day,
+                given: day,
             });
         }
         self.close_day(sheet, rule, &told, uses, shares);

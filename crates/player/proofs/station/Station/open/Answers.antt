@@ -1,4 +1,4 @@
-use Rattle.std.proofs.Common.{◌≡◌, true, subst, w16, to_z, of_z}
+use Rattle.std.proofs.Common.{◌≡◌, true, subst}
 use Rattle.ledger.specs.Days.{open_fault}
 use Rattle.player.specs.declared.station.Running.{Running}
 use Rattle.player.specs.declared.station.Running.TheVariants.{Idle}
@@ -10,6 +10,6 @@ pub invariant_of-result-in-Err : goal.invariant_of-result-in-Err
 invariant_of-result-in-Err c =
     let l = c.args.self.ledger.book in
     record {
-      tied = stays (open_fault l (to_z w16 (of_z w16 c.args.temperature)) c.args.season) _ c.in-Err.why _ l c.open.new.self.book Idle c.in-Err.ensures.answer c.in-Err.ensures.state
+      tied = stays (open_fault l c.args.weather.temperature c.args.weather.season) _ c.in-Err.why _ l c.open.new.self.book Idle c.in-Err.ensures.answer c.in-Err.ensures.state
           (subst (λ (d : Running). tied l.phase d ≡ true) c.in-Idle.is c.args.self.tied);
     }
