@@ -177,11 +177,15 @@ is_measured (Measured n w g x q) k = n == k
 abbrev pub ended : Book → Book
 ended l = with_phase (with_traders l (map unmetered l.traders)) Idle
 
+-- by whether the running day is the one that is to end
+abbrev pub abandon_fault : Bool → Option Refusal
+abandon_fault running = first_ground ((not running, NotRunning) ∷ [])
+
 abbrev pub abandon_open_fault : Book → OpenDay → Option Refusal
-abandon_open_fault l day = first_ground ((not (is_open l.phase day.number), NotRunning) ∷ [])
+abandon_open_fault l day = abandon_fault (is_open l.phase day.number)
 
 abbrev pub abandon_measured_fault : Book → MeasuredDay → Option Refusal
-abandon_measured_fault l day = first_ground ((not (is_measured l.phase day.number), NotRunning) ∷ [])
+abandon_measured_fault l day = abandon_fault (is_measured l.phase day.number)
 
 abbrev pub abandon_open_answer : Book → OpenDay → Result Unit (Refused OpenDay)
 abandon_open_answer l day = handed_back (abandon_open_fault l day) day tt

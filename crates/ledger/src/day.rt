@@ -1,7 +1,8 @@
-// The running gas day: its tokens, its weather and its phase.
-ghost use Rattle.std.specs.Prelude.{◌≡◌};
-ghost use Rattle.ledger.specs.Days.{is_idle, is_open, is_measured, sky_in};
+// The running gas day: its tokens and its phase.
+ghost use Rattle.std.specs.Prelude.{◌≡◌, Bool};
+ghost use Rattle.ledger.specs.Days.{is_idle, is_open, sky_in};
 ghost use Rattle.ledger.specs.Sharing.{day_quantity, day_loss};
+ghost use Rattle.ledger.specs.declared.day.Phase.{Phase as Stage};
 
 use profiles::Weather;
 
@@ -25,13 +26,28 @@ impl OpenDay {
     }
 }
 
-impl MeasuredDay {
-    // The day's number, by openings from 1.
-    pub fn number(&self) -> u32
-        ensures { result ≡ self.now.number }
-    {
-        let MeasuredDay { number } = self;
-        *number
+// A token of the running day. That there are two types of it, told apart by nothing else, is what keeps a day from being shared out
+// before its inflow was taken: one generic token would need a marker for what the two types say by themselves.
+pub(crate) trait Token: Sized {
+    // Whether the running day is the token's, and in the token's phase.
+    ghost runs: { Stage → Self → Bool };
+
+    fn is_running(&self, phase: Phase) -> bool
+        ensures { result ≡ runs phase self.now };
+
+    // The token ends; nothing else does.
+    fn end(self);
+}
+
+impl Token for OpenDay {
+    ghost runs = { λ phase day. is_open phase day.number };
+
+    fn is_running(&self, phase: Phase) -> bool {
+        matches!(phase, Phase::Open { number, .. } if number == self.number)
+    }
+
+    fn end(self) {
+        let OpenDay { number: _ } = self;
     }
 }
 
@@ -65,20 +81,6 @@ impl Phase {
         ensures { result ≡ is_idle self }
     {
         matches!(self, Phase::Idle)
-    }
-
-    // Whether the running day is open and has this number.
-    pub(crate) fn is_open(self, day: u32) -> bool
-        ensures { result ≡ is_open self day }
-    {
-        matches!(self, Phase::Open { number, .. } if number == day)
-    }
-
-    // Whether the running day is measured and has this number.
-    pub(crate) fn is_measured(self, day: u32) -> bool
-        ensures { result ≡ is_measured self day }
-    {
-        matches!(self, Phase::Measured { number, .. } if number == day)
     }
 
     // What the running day's opening took.

@@ -6,6 +6,7 @@ mod book;
 mod day;
 mod ledger;
 mod limits;
+mod measured;
 mod point;
 mod slip;
 

@@ -2,13 +2,13 @@
 ghost use Rattle.std.specs.Prelude.{◌≡◌, ◌≤◌, List};
 ghost use Rattle.ledger.specs.Accounts.{metered_sum};
 ghost use Rattle.ledger.specs.Days.{open_fault, open_answer, open_book, enter_fault, enter_answer, enter_book, loss_of, inflow_fault, inflow_answer, inflow_book};
-ghost use Rattle.ledger.specs.Days.{abandon_open_answer, abandon_open_book, abandon_measured_answer, abandon_measured_book};
-ghost use Rattle.ledger.specs.Grounds.{answered};
+ghost use Rattle.ledger.specs.Days.{ended, abandon_fault, abandon_open_answer, abandon_open_book, abandon_measured_answer, abandon_measured_book};
+ghost use Rattle.ledger.specs.Grounds.{answered, handed_back, unless};
 ghost use Rattle.ledger.specs.History.{Goes, Opened, Entered, InflowTaken, OpenAbandoned, MeasuredAbandoned};
 ghost use Rattle.ledger.specs.declared.point.Point.{Point as Row};
 
 use super::Ledger;
-use crate::day::{MeasuredDay, OpenDay, Phase};
+use crate::day::{MeasuredDay, OpenDay, Phase, Token};
 use crate::limits::{LAST_DAY, MAX_LITRES, MAX_OPENED, MAX_RATE, MAX_SHARED};
 use profiles::Weather;
 use refusals::{Refusal, Refused};
@@ -60,7 +60,7 @@ impl Ledger {
         if litres > MAX_LITRES {
             return Err(Refusal::Litres);
         }
-        if !self.book.phase.is_open(day.number) {
+        if !day.is_running(self.book.phase) {
             return Err(Refusal::NotRunning);
         }
         if self.metered_sum() + litres > MAX_LITRES {
@@ -86,7 +86,7 @@ impl Ledger {
         if inflow > MAX_LITRES || rate > MAX_RATE {
             return Err(Refusal::Litres);
         }
-        if !self.book.phase.is_open(day.number) {
+        if !day.is_running(self.book.phase) {
             return Err(Refusal::NotRunning);
         }
         if loss_of(inflow, rate) + self.metered_sum() > inflow {
@@ -123,21 +123,29 @@ impl Ledger {
         Ok(MeasuredDay { number })
     }
 
+    // Ends the running day with nothing settled.
+    fn abandon<T: Token>(&mut self, day: T) -> Result<(), Refused<T>>
+        ensures answer { result ≡ handed_back (abandon_fault (T.Token.runs self.old.book.phase day)) day tt }
+        ensures state { self.new.book ≡ unless (abandon_fault (T.Token.runs self.old.book.phase day)) (ended self.old.book) self.old.book }
+    {
+        if !day.is_running(self.book.phase) {
+            return Err(Refused {
+                why: Refusal::NotRunning,
+                given: day,
+            });
+        }
+        day.end();
+        self.book.end_day();
+        Ok(())
+    }
+
     // Ends an open day with nothing settled.
     pub fn abandon_open(&mut self, day: OpenDay) -> Result<(), Refused<OpenDay>>
         ensures answer { result ≡ abandon_open_answer self.old.book day }
         ensures state { self.new.book ≡ abandon_open_book self.old.book day }
         ensures run { (s : List Row) → Goes (OpenAbandoned day result) self.old.book s self.new.book s }
     {
-        if !self.book.phase.is_open(day.number) {
-            return Err(Refused {
-                why: Refusal::NotRunning,
-                given: day,
-            });
-        }
-        let OpenDay { number: _ } = day;
-        self.book.end_day();
-        Ok(())
+        self.abandon(day)
     }
 
     // Ends a measured day with nothing settled.
@@ -146,15 +154,7 @@ impl Ledger {
         ensures state { self.new.book ≡ abandon_measured_book self.old.book day }
         ensures run { (s : List Row) → Goes (MeasuredAbandoned day result) self.old.book s self.new.book s }
     {
-        if !self.book.phase.is_measured(day.number) {
-            return Err(Refused {
-                why: Refusal::NotRunning,
-                given: day,
-            });
-        }
-        let MeasuredDay { number: _ } = day;
-        self.book.end_day();
-        Ok(())
+        self.abandon(day)
     }
 }
 

@@ -9,7 +9,7 @@ ghost use Rattle.ledger.specs.Sharing.{Creditable, Weighable, told_on, day_quant
 
 use super::Ledger;
 use crate::book::Trader;
-use crate::day::{MeasuredDay, Phase, SharedOut};
+use crate::day::{MeasuredDay, Phase, SharedOut, Token};
 use crate::point::Point;
 use profiles::{Factors, Profile, WHOLE, Weather};
 use refusals::{Refusal, Refused};
@@ -138,7 +138,7 @@ impl Ledger {
         if !tests.may_share {
             return Err(Refusal::ForeignSheet);
         }
-        if !self.book.phase.is_measured(day.number) {
+        if !day.is_running(self.book.phase) {
             return Err(Refusal::NotRunning);
         }
         if !tests.free {
@@ -223,7 +223,7 @@ impl Ledger {
             });
         }
         self.close_day(sheet, rule, &told, uses, shares);
-        let MeasuredDay { number: _ } = day;
+        day.end();
         Ok(SharedOut {
             quantity,
             total,
