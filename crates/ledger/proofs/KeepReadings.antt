@@ -113,13 +113,10 @@ module _ (l : Book) (h : Sound l) (p : Point) (fits : in_range p ≡ true) (left
 
   abbrev with_both : ℤ → ℤ → Book
   with_both x y =
-      record {
+      record l {
         traders = set l.traders p.trader (record { account = x; metered = metered_at l.traders p.trader });
         counts = one_more_booking l.counts;
-        loss = l.loss;
         correction = y;
-        next_day = l.next_day;
-        phase = l.phase;
       }
 
   pub row_booked : with_both (to_z w64 (of_z w64 (to_z w64 (of_z w64 (account_at l.traders p.trader)) +ℤ to_z w64 (of_z w64 by)))) (to_z w64 (of_z w64 (to_z w64 (of_z w64 l.correction) -ℤ to_z w64 (of_z w64 by)))) ≡ booked_book l p

@@ -201,11 +201,10 @@ module _ (l : Book) (s : List Point) (rule : Rule) (law : LawfulRule rule) (so :
 
   abbrev day_closed : List Trader → ℕ → Book
   day_closed ts x =
-      record {
+      record l {
         traders = ts;
         counts = one_more_shared l.counts;
         loss = l.loss + x;
-        correction = l.correction;
         next_day = l.next_day + 1;
         phase = Idle;
       }

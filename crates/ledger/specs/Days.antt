@@ -21,15 +21,7 @@ use Rattle.ledger.specs.Rows.{sheet_fits, particulars_fit, admitted_row, every, 
 -- Admitting a trader.
 
 abbrev pub one_more_trader : Counts → Counts
-one_more_trader c =
-    record {
-      traders = c.traders + 1;
-      points = c.points;
-      opened = c.opened;
-      shared = c.shared;
-      readings = c.readings;
-      bookings = c.bookings;
-    }
+one_more_trader c = record c { traders = c.traders + 1 }
 
 abbrev pub admit_fault : Book → Option Refusal
 admit_fault l = first_ground ((nat_le max_traders l.counts.traders, NoPlace) ∷ [])
@@ -43,15 +35,7 @@ admit_book l = unless (admit_fault l) (with_counts l (one_more_trader l.counts))
 -- Admitting a point.
 
 abbrev pub one_more_point : Counts → Counts
-one_more_point c =
-    record {
-      traders = c.traders;
-      points = c.points + 1;
-      opened = c.opened;
-      shared = c.shared;
-      readings = c.readings;
-      bookings = c.bookings;
-    }
+one_more_point c = record c { points = c.points + 1 }
 
 abbrev pub point_fault : Book → List Point → Given → Option Refusal
 point_fault l s g =
@@ -79,15 +63,7 @@ is_idle (Open n w) = false
 is_idle (Measured n w g x q) = false
 
 abbrev pub one_more_opened : Counts → Counts
-one_more_opened c =
-    record {
-      traders = c.traders;
-      points = c.points;
-      opened = c.opened + 1;
-      shared = c.shared;
-      readings = c.readings;
-      bookings = c.bookings;
-    }
+one_more_opened c = record c { opened = c.opened + 1 }
 
 abbrev pub open_fault : Book → ℤ → ℕ → Option Refusal
 open_fault l temperature season =

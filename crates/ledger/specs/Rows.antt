@@ -108,19 +108,7 @@ admitted_row g =
 
 -- a row after a day was shared out: the share joins its open sum, the multiplier its period sum
 abbrev pub shared_row : Point → ℕ → ℕ → Point
-shared_row p share multiplier =
-    record {
-      trader = p.trader;
-      segment = p.segment;
-      digits = p.digits;
-      litres_per_unit = p.litres_per_unit;
-      reading = p.reading;
-      scale_factor = p.scale_factor;
-      open_sum = p.open_sum + share;
-      period_sum = p.period_sum + multiplier;
-      slip = p.slip;
-      kept_reading = p.kept_reading;
-    }
+shared_row p share multiplier = record p { open_sum = p.open_sum + share; period_sum = p.period_sum + multiplier }
 
 -- the sheet once the first k rows have had their shares
 unfoldable pub shared_rows : (ℕ → Factors) → List Point → List ℕ → ℕ → List Point

@@ -95,24 +95,15 @@ share_answer l day s tells segments uses shares =
     handed_back (share_fault l day s tells segments uses shares) day (share_told l s tells)
 
 abbrev pub one_more_shared : Counts → Counts
-one_more_shared c =
-    record {
-      traders = c.traders;
-      points = c.points;
-      opened = c.opened;
-      shared = c.shared + 1;
-      readings = c.readings;
-      bookings = c.bookings;
-    }
+one_more_shared c = record c { shared = c.shared + 1 }
 
 -- the ledger after its points had these shares: shares and metered sums are in the traders' accounts, the loss in its account
 abbrev pub shared_book : Book → List Point → List ℕ → Book
 shared_book l s shares =
-    record {
+    record l {
       traders = map settled (credited_to l.traders s shares l.counts.points);
       counts = one_more_shared l.counts;
       loss = l.loss + day_loss l.phase;
-      correction = l.correction;
       next_day = l.next_day + 1;
       phase = Idle;
     }
