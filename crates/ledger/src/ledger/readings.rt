@@ -97,10 +97,9 @@ fn scale_after(scale_factor: u32, consumption: u64, period_sum: u64) -> u32
     requires { consumption ≤ 200_000_000_000 }
     ensures { result ≡ new_scale scale_factor consumption period_sum }
 {
-    if period_sum > 0 {
-        (consumption * u64::from(WHOLE) / period_sum).min(u64::from(MAX_SCALE)) as u32
-    } else {
-        scale_factor
+    match (consumption * u64::from(WHOLE)).checked_div(period_sum) {
+        Some(scale) => scale.min(u64::from(MAX_SCALE)) as u32,
+        None => scale_factor,
     }
 }
 
@@ -185,9 +184,9 @@ impl Ledger {
             Err(why) => Err(Refused { why, given: slip }),
             Ok(row) => {
                 let Slip { number: _, point } = slip;
-                let by = self.book_row(row);
+                let told = self.book_row(row);
                 sheet[point] = row.booked(row.trader);
-                Ok(by)
+                Ok(told)
             }
         }
     }

@@ -12,8 +12,8 @@ use Rattle.ledger.proofs.AcceptedReadings.{books}
 use Rattle.ledger.proofs.Grounds.{passed_by}
 use Rattle.ledger.proofs.ledger.Ledger.book.Goals as goal
 
-pub book_row-by-requires-clause-row : goal.book_row-by-requires-clause-row
-book_row-by-requires-clause-row c =
+pub book_row-told-requires-clause-row : goal.book_row-told-requires-clause-row
+book_row-told-requires-clause-row c =
     let l = c.args.self.now.book in
     let s = c.args.sheet.now in
     let slip = c.args.slip in
@@ -40,12 +40,12 @@ returns-in-Ok c =
     let row = row_at s slip.point in
     let p = passed_by (book_fault l s slip) row c.in-Ok.row c.in-Ok.ensures in
     let none = p.0 in
-    let by = c.book_row-by.result in
+    let by = c.book_row-told.result in
     let fits : SFits w64 by = search rules in
     let answer =
-    ap (λ (z : ℤ). Ok z) (to_z-of_z w64 by fits ∙ c.book_row-by.ensures.told ∙ ap row_correction p.1)
+    ap (λ (z : ℤ). Ok z) (to_z-of_z w64 by fits ∙ c.book_row-told.ensures.told ∙ ap row_correction p.1)
     ∙ sym (ap (λ (o : Option Refusal). handed_back o slip (row_correction row)) none) in
-    let state = c.book_row-by.ensures.state ∙ ap (booked_book l) p.1 ∙ sym (ap (λ (o : Option Refusal). unless o (booked_book l row) l) none) in
+    let state = c.book_row-told.ensures.state ∙ ap (booked_book l) p.1 ∙ sym (ap (λ (o : Option Refusal). unless o (booked_book l row) l) none) in
     let rows =
     ap (set s slip.point) (c.booked.ensures ∙ ap (λ (r : Point). booked_row r r.trader) p.1)
     ∙ sym (ap (λ (o : Option Refusal). unless o (set s slip.point (booked_row row row.trader)) s) none) in
