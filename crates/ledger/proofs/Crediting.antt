@@ -1,10 +1,10 @@
 -- One turn of the loop that books the shares.
-use Rattle.std.proofs.Common.{◌≡◌, ℕ, ◌+◌, ◌<◌, ◌≤◌, List, length, get_or, take, set, pos, ◌≤ℤ◌, sum, sym, ap, ◌∙◌, subst, arith}
+use Rattle.std.proofs.Common.{◌≡◌, ℕ, ◌+◌, ◌<◌, ◌≤◌, List, length, get_or, set, pos, ◌≤ℤ◌, sum, sym, ap, ◌∙◌, subst, arith}
 use Rattle.std.proofs.lemmas.Int.{ints}
 use Rattle.profiles.specs.declared.factors.Factors.{Factors}
 use Rattle.ledger.specs.declared.book.Trader.{Trader}
 use Rattle.ledger.specs.declared.point.Point.{Point}
-use Rattle.ledger.specs.Accounts.{Near, Settling, account_at, metered_at, metered_sum, credited, credited_to}
+use Rattle.ledger.specs.Accounts.{Near, Settling, account_at, metered_sum, credited, credited_to}
 use Rattle.ledger.specs.Limits.{max_litres, max_traders}
 use Rattle.ledger.specs.Rows.{Shareable, row_at, shared_row, shared_rows}
 use Rattle.ledger.specs.Sharing.{Creditable}

@@ -1,15 +1,10 @@
 -- What one turn of a loop does, over plain lists and numbers.
-use Rattle.std.proofs.Common.{◌≡◌, ℕ, zero, suc, ◌+◌, ◌<◌, ◌≤◌, List, [], ◌∷◌, ◌++◌, map, length, get_or, take, drop, set, pos, ◌+ℤ◌, sum, sym, refl, ap, ◌∙◌, subst, arith}
+use Rattle.std.proofs.Common.{◌≡◌, ℕ, zero, suc, ◌+◌, ◌<◌, ◌≤◌, List, [], ◌∷◌, ◌++◌, map, length, get_or, take, drop, set, pos, ◌+ℤ◌, sym, refl, ap, ◌∙◌, subst, arith}
 use Rattle.std.proofs.lemmas.List.Edits.{map_over_more}
-use Rattle.std.proofs.lemmas.List.{length-append, length-map, length-take, length-drop, get_or_default, take_all, drop_all, append-nil, take_more_set, map_more, take-append-drop}
+use Rattle.std.proofs.lemmas.List.{length-append, length-map, length-take, length-drop, get_or_default, take_all, drop_all, append-nil}
 use Rattle.std.proofs.lemmas.Int.{ints}
-use Rattle.std.proofs.lemmas.List.Sums.{sum_by_more, sum-map}
-use Rattle.profiles.specs.declared.factors.Factors.{Factors}
-use Rattle.ledger.specs.declared.book.Book.{Book}
 use Rattle.ledger.specs.declared.book.Trader.{Trader}
-use Rattle.ledger.specs.declared.point.Point.{Point}
-use Rattle.ledger.specs.Accounts.{no_trader, account_at, metered_at, metered_sum, all_accounts, with_traders}
-use Rattle.ledger.specs.Rows.{no_row, row_at, profile_use, profile_uses}
+use Rattle.ledger.specs.Accounts.{no_trader, account_at, all_accounts}
 
 -- the traders in the middle of a pass that changes each by f
 abbrev pub partly : (Trader → Trader) → List Trader → ℕ → List Trader
@@ -53,19 +48,3 @@ accounts_more (t ∷ ts) (suc i) h =
 pub accounts_none : all_accounts [] ≡ pos 0
 unfolding all_accounts
 accounts_none = refl
-
-module _ (told : ℕ → Factors) (s : List Point) where
-  -- the work sheet after one more row was weighed
-  pub weigh_step : (us : List ℕ) (i x : ℕ) → i < length us → i < length s → x ≡ profile_use (row_at s i).scale_factor (told (row_at s i).segment).day → take i us ≡ profile_uses told (take i s) → take (i + 1) (set us i x) ≡ profile_uses told (take (i + 1) s)
-  weigh_step us i x h k e t =
-      take_more_set us i x h ∙ ap (λ u. u ++ (x ∷ [])) t ∙ ap (λ y. profile_uses told (take i s) ++ (y ∷ [])) e
-      ∙ sym (map_more (λ (p : Point). profile_use p.scale_factor (told p.segment).day) s i no_row k)
-
-  pub weigh_sum : (i : ℕ) → i < length s → sum (profile_uses told (take (i + 1) s)) ≡ sum (profile_uses told (take i s)) + profile_use (row_at s i).scale_factor (told (row_at s i).segment).day
-  weigh_sum i k =
-      let g : Point → ℕ = λ p. profile_use p.scale_factor (told p.segment).day in
-      sum-map g (take (i + 1) s) ∙ sum_by_more g s i no_row k ∙ ap (λ n. n + g (row_at s i)) (sym (sum-map g (take i s)))
-
--- a front that was written, and the rest that was not
-pub front_and_rest : (us vs ws : List ℕ) (n : ℕ) → take n us ≡ vs → drop n us ≡ drop n ws → us ≡ vs ++ drop n ws
-front_and_rest us vs ws n a b = sym (take-append-drop n us) ∙ ap (λ u. u ++ drop n us) a ∙ ap (λ u. vs ++ u) b

@@ -1,9 +1,9 @@
 -- What the tests of a row say.
-use Rattle.std.proofs.Common.{◌≡◌, ℕ, ◌<◌, ◌≤◌, true, arith}
+use Rattle.std.proofs.Common.{◌≡◌, ℕ, ◌≤◌, true, arith}
 use Rattle.std.proofs.lemmas.Bool.{ltb-true, and_parts}
 use Rattle.std.proofs.lemmas.Bool.Decides.{nat_tests}
 use Rattle.ledger.specs.declared.point.Point.{Point}
-use Rattle.ledger.specs.Limits.{max_open_sum, max_period_sum}
+use Rattle.ledger.specs.Limits.{max_open_sum}
 use Rattle.ledger.specs.Rows.{Shareable, in_range, may_share, summable, open_sum_of}
 use Rattle.ledger.proofs.Corrections.{ranged}
 

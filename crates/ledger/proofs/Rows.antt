@@ -109,15 +109,7 @@ shared_rows_part told s shares n (suc k) r h =
 
 -- The open sums of a trader's points.
 
-pub open_sums_none : (t : ℕ) (s : List Point) → 0 ≡ open_sums t s 0
-unfolding open_sums
-open_sums_none t s = refl
-
-pub open_sums_more : (t : ℕ) (s : List Point) (i : ℕ) → open_sums t s i + open_sum_of t (row_at s i) ≡ open_sums t s (i + 1)
-unfolding open_sums
-open_sums_more t s i = rw add-one refl
-
--- they are the sum over the first n rows, taken as a list of their own
+-- the sum over the first n rows, taken as a list of their own
 pub open_sums_front : (t : ℕ) (s : List Point) (n : ℕ) → n ≤ length s → sum_by (open_sum_of t) (take n s) ≡ open_sums t s n
 unfolding open_sums
 open_sums_front t s zero h = refl

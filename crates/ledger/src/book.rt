@@ -18,6 +18,7 @@ impl Trader {
         requires { (self.old.account ≤ℤ pos 6_000_000_000_000_000_000) × (litres ≤ 1_000_000_000) }
         ensures { self.new ≡ record { account = self.old.account +ℤ pos litres; metered = self.old.metered } }
     {
+        // A cast: there is no `From` of u64 for i64.
         self.account += litres as i64;
     }
 

@@ -96,6 +96,7 @@ impl Phase {
         }
     }
 
+    // Nought but for a measured day: who asks has tested the phase, and an `Option` would have him meet a `None` that cannot come.
     pub(crate) fn quantity(self) -> u64
         ensures { result ≡ day_quantity self }
     {

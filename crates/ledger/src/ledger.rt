@@ -45,7 +45,9 @@ impl Ledger {
         if sheet.len() > MAX_POINTS {
             return Err(Refusal::PointSheetLength);
         }
-        sheet.get(..self.book.counts.points).ok_or(Refusal::PointSheetLength)
+        sheet
+            .get(..self.book.counts.points)
+            .ok_or(Refusal::PointSheetLength)
     }
 
     // A trader's record.
@@ -78,6 +80,7 @@ impl Ledger {
         ensures value { result ≡ all_accounts self.now.book.traders }
         ensures bound { Near result 400_000_000_000_000_000_000 }
     {
+        // Tried: `map` and `sum`. Of a signed sum the toolchain proves no bound.
         let mut all = 0;
         for trader in &self.book.traders {
             all += i128::from(trader.account);

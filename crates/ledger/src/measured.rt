@@ -1,4 +1,4 @@
-// The token of a measured day.
+// The token of a measured day, beside the open day's: the two stay two types (see `Token`).
 ghost use Rattle.std.specs.Prelude.{◌≡◌};
 ghost use Rattle.ledger.specs.Days.{is_measured};
 

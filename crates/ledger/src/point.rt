@@ -2,7 +2,9 @@
 ghost use Rattle.std.specs.Prelude.{◌≡◌, ◌^◌, ◌≤◌};
 ghost use Rattle.ledger.specs.Rows.{particulars_fit, admitted_row, in_range, may_share, summable, open_sum_of};
 
-use crate::limits::{MAX_OPEN_SUM, MAX_PERIOD_SUM, MAX_SCALE, MAX_TRADERS, FULL_OPEN_SUM, FULL_PERIOD_SUM};
+use crate::limits::{
+    FULL_OPEN_SUM, FULL_PERIOD_SUM, MAX_OPEN_SUM, MAX_PERIOD_SUM, MAX_SCALE, MAX_TRADERS,
+};
 
 // The sheet is the caller's, so any row may hold anything: every call that reads one tests it first. So that a row stays a plain one
 // (a rule of the project), 0 stands for no slip, and the kept reading is 0 where there is none.

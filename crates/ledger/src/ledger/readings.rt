@@ -14,7 +14,7 @@ use crate::slip::Slip;
 use profiles::WHOLE;
 use refusals::{Refusal, Refused};
 
-// What a dial has turned between two readings.
+// What a dial has turned between two readings. The two cases are the trade's rule; `checked_sub` would hide them.
 fn dial_turned(digits: u32, old: u32, new: u32) -> u32
     requires few { 4 ≤ digits }
     requires most { digits ≤ 8 }
@@ -108,7 +108,10 @@ impl Ledger {
     fn row(&self, sheet: &[Point], point: usize) -> Result<Point, Refusal>
         ensures { result ≡ answered (row_fault self.now.book.counts.points sheet.now point) (row_at sheet.now point) }
     {
-        self.rows(sheet)?.get(point).copied().ok_or(Refusal::NoSuchPoint)
+        self.rows(sheet)?
+            .get(point)
+            .copied()
+            .ok_or(Refusal::NoSuchPoint)
     }
 
     // The row of a point that can be read.

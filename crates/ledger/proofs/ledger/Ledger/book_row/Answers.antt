@@ -1,6 +1,6 @@
-use Rattle.std.proofs.Common.{sym, subst, rules, w64, SFits}
+use Rattle.std.proofs.Common.{sym, subst, rules}
 use Rattle.std.proofs.lemmas.Bool.{and_parts}
-use Rattle.ledger.specs.Accounts.{Sound, account_at}
+use Rattle.ledger.specs.Accounts.{Sound}
 use Rattle.ledger.proofs.KeepReadings.{booked_sound, account_sum_fits, rest_difference_fits, row_booked}
 use Rattle.ledger.proofs.ledger.Ledger.book_row.Goals as goal
 

@@ -1,4 +1,4 @@
-use Rattle.std.proofs.Common.{rules, refl, arith}
+use Rattle.std.proofs.Common.{refl, arith}
 use Rattle.std.proofs.lemmas.Grind.{common_steps}
 use Rattle.ledger.specs.History.{next}
 use Rattle.ledger.proofs.ledger.Ledger.enter.Goals as goal

@@ -1,4 +1,4 @@
-use Rattle.std.proofs.Common.{◌≡◌, true, set, ℤ, None, Ok, Option, sym, ap, ◌∙◌, subst, w64, SFits, rules, arith}
+use Rattle.std.proofs.Common.{◌≡◌, true, set, ℤ, Ok, Option, sym, ap, ◌∙◌, subst, w64, SFits, rules, arith}
 use Rattle.std.proofs.lemmas.Grind.{common_steps}
 use Rattle.std.proofs.lemmas.Int.{to_z-of_z}
 use Rattle.std.proofs.lemmas.Bool.{and_from, lt-ltb}

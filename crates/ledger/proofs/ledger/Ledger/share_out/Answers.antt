@@ -1,4 +1,4 @@
-use Rattle.std.proofs.Common.{◌≡◌, false, ◌&&◌, eqb, ltb, length, sym, ◌∙◌, subst, ⊎_elim}
+use Rattle.std.proofs.Common.{◌≡◌, false, ◌&&◌, eqb, ltb, length, sym, subst, ⊎_elim}
 use Rattle.std.proofs.lemmas.Bool.{and_right, and_left, le-ltb, ne_eqb}
 use Rattle.ledger.specs.History.{LawfulRule, Means}
 use Rattle.ledger.specs.Sharing.{Weighable, share_grounds}

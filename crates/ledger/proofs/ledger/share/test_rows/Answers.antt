@@ -1,4 +1,3 @@
-use Rattle.std.proofs.Common.{arith}
 use Rattle.ledger.specs.Rows.{may_share, is_free, is_served}
 use Rattle.ledger.proofs.Rows.{every_none, every_more}
 use Rattle.ledger.proofs.ledger.share.test_rows.Goals as goal
