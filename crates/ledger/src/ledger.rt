@@ -116,10 +116,3 @@ impl Ledger {
         self.book.correction
     }
 }
-
-// Whether a sheet is long enough for n points, and not over the limit.
-fn sheet_fits(n: usize, sheet: &[Point]) -> bool
-    ensures { result ≡ sheet_fits n sheet.now }
-{
-    (n..=MAX_POINTS).contains(&sheet.len())
-}

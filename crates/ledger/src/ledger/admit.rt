@@ -5,7 +5,7 @@ ghost use Rattle.ledger.specs.Grounds.{answered};
 ghost use Rattle.ledger.specs.History.{Goes, TraderAdmitted, PointAdmitted};
 ghost use Rattle.ledger.specs.declared.point.Point.{Point as Row};
 
-use super::{Ledger, sheet_fits};
+use super::Ledger;
 use crate::limits::MAX_TRADERS;
 use crate::point::{Particulars, Point};
 use refusals::Refusal;
@@ -28,14 +28,12 @@ impl Ledger {
     fn check_point(&self, sheet: &[Point], given: Particulars) -> Result<(), Refusal>
         ensures { result ≡ answered (point_fault self.now.book sheet.now given) tt }
     {
-        if !sheet_fits(self.book.counts.points, sheet) {
-            return Err(Refusal::PointSheetLength);
-        }
+        let rows = self.rows(sheet)?;
         self.trader(given.trader)?;
         if !given.fit() {
             return Err(Refusal::Particulars);
         }
-        if self.book.counts.points >= sheet.len() {
+        if rows.len() >= sheet.len() {
             return Err(Refusal::NoPlace);
         }
         Ok(())
