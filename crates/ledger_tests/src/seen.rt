@@ -45,44 +45,40 @@ impl Seen {
     }
 }
 
-// How a call was answered: the number of its refusal, 0 where it was accepted, and whether the ledger stayed as it was.
+// How a call was answered: the number of its refusal, if it was refused, and whether the ledger stayed as it was.
 #[derive(Clone, Copy)]
 pub(crate) struct Outcome {
-    pub(crate) number: u8,
+    pub(crate) refusal: Option<u8>,
     pub(crate) unchanged: bool,
 }
 
 impl Outcome {
-    pub(crate) fn new(number: u8, before: Seen, ledger: &Ledger) -> Outcome {
+    pub(crate) fn new(refusal: Option<u8>, before: Seen, ledger: &Ledger) -> Outcome {
         Outcome {
-            number,
+            refusal,
             unchanged: Seen::of(ledger) == before,
         }
     }
 
     pub(crate) fn accepted(self) -> bool {
-        self.number == 0
+        self.refusal.is_none()
     }
 
     // As a refusal of that number has to be: the ledger stayed as it was.
     pub(crate) fn refused(self, number: u8) -> bool {
-        self.number == number && self.unchanged
+        self.refusal == Some(number) && self.unchanged
     }
 
-    // Whether the call was refused by this number, or accepted where it is 0.
-    pub(crate) fn is(self, number: u8) -> bool {
-        if number == 0 {
-            self.accepted()
-        } else {
-            self.refused(number)
+    // Whether the call was refused by this number, or accepted where there is none.
+    pub(crate) fn is(self, refusal: Option<u8>) -> bool {
+        match refusal {
+            None => self.accepted(),
+            Some(number) => self.refused(number),
         }
     }
 }
 
-// The number of an answer, 0 where it is none of a refusal.
-pub(crate) fn number_of<T: Drop>(answer: Result<T, Refusal>) -> u8 {
-    match answer {
-        Ok(_) => 0,
-        Err(why) => why.number(),
-    }
+// The number of an answer's refusal.
+pub(crate) fn refusal_of<T: Drop>(answer: Result<T, Refusal>) -> Option<u8> {
+    answer.err().map(|why| why.number())
 }

@@ -13,9 +13,9 @@ use std::test::Fail;
 #[derive(Debug, Drop)]
 struct Changed;
 
-// The number of the refusal where the slip of another ledger's first reading is brought to this one, 0 for none. A refusal has to
+// The number of the refusal where the slip of another ledger's first reading is brought to this one. A refusal has to
 // leave ledger and sheet.
-fn brought(ledger: &mut Ledger, sheet: &mut [Point; 2], call: Call) -> Result<u8, Fail>
+fn brought(ledger: &mut Ledger, sheet: &mut [Point; 2], call: Call) -> Result<Option<u8>, Fail>
     ensures { ledger.new.book.counts.points ≡ ledger.old.book.counts.points }
 {
     let mut other = two_points()?;
@@ -23,23 +23,20 @@ fn brought(ledger: &mut Ledger, sheet: &mut [Point; 2], call: Call) -> Result<u8
     let before = Seen::of(ledger);
     let rows = *sheet;
     match ending(ledger, sheet, theirs, call) {
-        Ok(_) => Ok(0),
+        Ok(_) => Ok(None),
         Err(Refused { why, given }) => {
             end(&other, given);
             if Seen::of(ledger) != before || *sheet != rows {
                 return Err(Changed)?;
             }
-            Ok(why.number())
+            Ok(Some(why.number()))
         }
     }
 }
 
 // Whether a call was refused by this number.
 fn refused(answer: Result<i64, Refusal>, number: u8) -> bool {
-    match answer {
-        Ok(_) => false,
-        Err(why) => why.number() == number,
-    }
+    answer.err().map(|why| why.number()) == Some(number)
 }
 
 // The first row while its first slip is open.
@@ -56,9 +53,9 @@ fn another_number(rt: HostRuntime) -> Result<(), Fail> {
     let mut sheet = [Point { slip: 2, ..KEPT }, SECOND];
     let slip = reading(&mut ledger, &mut sheet, 1, 15)?;
     ended(&mut ledger, &mut sheet, slip, Call::Withdraw)?;
-    assert!(rt; brought(&mut ledger, &mut sheet, Call::Book)? == 21);
-    assert!(rt; brought(&mut ledger, &mut sheet, Call::HandOver(1))? == 21);
-    assert!(rt; brought(&mut ledger, &mut sheet, Call::Withdraw)? == 21);
+    assert!(rt; brought(&mut ledger, &mut sheet, Call::Book)? == Some(21));
+    assert!(rt; brought(&mut ledger, &mut sheet, Call::HandOver(1))? == Some(21));
+    assert!(rt; brought(&mut ledger, &mut sheet, Call::Withdraw)? == Some(21));
     Ok(())
 }
 
@@ -72,7 +69,7 @@ fn the_same_number_and_point(rt: HostRuntime) -> Result<(), Fail> {
     let own = reading(&mut ledger, &mut sheet, 0, 15)?;
     let theirs = brought(&mut ledger, &mut sheet, Call::Book);
     let late = ended(&mut ledger, &mut sheet, own, Call::Book);
-    assert!(rt; theirs? == 0 && refused(late, 21));
+    assert!(rt; theirs? == None && refused(late, 21));
     let after = before.with_readings(1).with_booking([25_000, 0], -25_000);
     assert!(rt; Seen::of(&ledger) == after && sheet == [Point { reading: 15, ..ROW }, SECOND]);
     Ok(())
@@ -84,8 +81,10 @@ fn the_same_number_and_point(rt: HostRuntime) -> Result<(), Fail> {
 fn more_bookings_than_readings(rt: HostRuntime) -> Result<(), Fail> {
     let mut ledger = two_points()?;
     let mut sheet = [KEPT, SECOND];
-    assert!(rt; brought(&mut ledger, &mut sheet, Call::Book)? == 21);
-    assert!(rt; brought(&mut ledger, &mut sheet, Call::HandOver(1))? == 21);
-    assert!(rt; brought(&mut ledger, &mut sheet, Call::Withdraw)? == 0 && sheet == [ROW, SECOND]);
+    assert!(rt; brought(&mut ledger, &mut sheet, Call::Book)? == Some(21));
+    assert!(rt; brought(&mut ledger, &mut sheet, Call::HandOver(1))? == Some(21));
+    assert!(rt;
+        brought(&mut ledger, &mut sheet, Call::Withdraw)? == None && sheet == [ROW, SECOND]
+    );
     Ok(())
 }
