@@ -1,7 +1,7 @@
 -- What is known of a call where no ground of refusal is met, and what holds after one that may be refused.
-use Rattle.std.proofs.Common.{◌≡◌, ℕ, Bool, true, false, cond, Some, None, Option, refl, arith}
+use Rattle.std.proofs.Common.{◌≡◌, ℕ, Bool, true, false, cond, Some, None, Ok, Err, Option, sym, refl, ap, arith}
 use Rattle.refusals.specs.declared.Refusal.{Refusal}
-use Rattle.ledger.specs.Grounds.{unless}
+use Rattle.ledger.specs.Grounds.{answered, unless}
 
 pub some_none : {A : Type 0} (w : Refusal) → Some w ≡ None → A
 some_none w e = let z : ◌≡◌ {A = ℕ} 0 1 = cc in absurd (let q : ⊥ = omega arith in q)
@@ -18,3 +18,18 @@ by_option P (Some w) f g = g w
 
 pub by_unless : {A : Type 0} (P : A → Type 0) (o : Option Refusal) (new old : A) → (o ≡ None → P new) → P old → P (unless o new old)
 by_unless P o new old f g = by_option (λ v. P (unless v new old)) o f (λ w. g)
+
+-- what a test told: the ground that refuses, or that there is none
+pub refused_by : {A : Type 0} (f : Option Refusal) (x : A) (w : Refusal) → Err w ≡ answered f x → f ≡ Some w
+refused_by None x w e = cc
+refused_by (Some v) x w e = cc
+
+pub passed_by : {A : Type 0} (f : Option Refusal) (x y : A) → Ok y ≡ answered f x → (f ≡ None) × (y ≡ x)
+passed_by None x y e = (refl, cc)
+passed_by (Some v) x y e = cc
+
+-- a call that its test refuses answers so, and changes nothing
+pub stays : {A B X : Type 0} (f : Option Refusal) (y : B) (x : A) (new old : X) (w : Refusal) → Err w ≡ answered f y → (Err w ≡ answered f x) × (old ≡ unless f new old)
+stays f y x new old w e =
+    let some = refused_by f y w e in
+    (sym (ap (λ (o : Option Refusal). answered o x) some), sym (ap (λ (o : Option Refusal). unless o new old) some))

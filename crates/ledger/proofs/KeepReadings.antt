@@ -1,11 +1,12 @@
 -- Every call on a reading keeps what always holds of a ledger, whatever is handed in.
-use Rattle.std.proofs.Common.{◌≡◌, ℕ, ◌+◌, ◌*◌, ◌<◌, true, List, sym, refl, ◌∙◌, subst, arith}
+use Rattle.std.proofs.Common.{◌≡◌, ℕ, ◌+◌, ◌*◌, ◌<◌, true, List, set, ℤ, ◌+ℤ◌, ◌-ℤ◌, sym, refl, ap, ◌∙◌, subst, arith, w64, SFits, to_z, of_z, rules}
+use Rattle.std.proofs.lemmas.Int.{ints, to_z-of_z}
 use Rattle.std.proofs.lemmas.List.{length-set}
 use Rattle.ledger.specs.declared.book.Book.{Book}
 use Rattle.ledger.specs.declared.book.Trader.{Trader}
 use Rattle.ledger.specs.declared.point.Point.{Point}
 use Rattle.ledger.specs.declared.slip.Slip.{Slip}
-use Rattle.ledger.specs.Accounts.{account_at, credited, Near, reach, day_holds, Sound}
+use Rattle.ledger.specs.Accounts.{account_at, metered_at, credited, Near, reach, day_holds, Sound}
 use Rattle.ledger.specs.Limits.{max_correction}
 use Rattle.ledger.specs.Readings.{row_correction, one_more_booking, read_fault, read_book, booked_book, book_fault, book_book, hand_fault, hand_book}
 use Rattle.ledger.specs.Rows.{row_at, in_range}
@@ -75,3 +76,56 @@ hand_sound l s slip t h =
     by_unless Sound (hand_fault l s slip t) _ l
     (λ e. let b = (hands_over l s slip t e).books in booked_sound l (row_at s slip.point) h b.ranges b.left)
     h
+
+-- The two accounts that a booking moves, as numbers of 64 bits: both fit, and nothing is lost.
+
+module _ (l : Book) (h : Sound l) (p : Point) (fits : in_range p ≡ true) (left : l.counts.bookings < l.counts.readings) (by : ℤ) (e : by ≡ row_correction p)
+    (fz : SFits w64 (account_at l.traders p.trader)) (fc : SFits w64 l.correction) (fb : SFits w64 by) where
+  account_fits : SFits w64 (account_at l.traders p.trader +ℤ by)
+  account_fits =
+      let k = correction_near p fits in
+      let kh = k.high in
+      let kl = k.low in
+      let a = h.accounts p.trader in
+      let ah = a.high in
+      let al = a.low in
+      let s = h.shared in
+      let b = h.bookings in
+      let r = h.readings in
+      search (rules, ints)
+
+  rest_fits : SFits w64 (l.correction -ℤ by)
+  rest_fits =
+      let k = correction_near p fits in
+      let kh = k.high in
+      let kl = k.low in
+      let ch = h.corrections.high in
+      let cl = h.corrections.low in
+      let b = h.bookings in
+      let r = h.readings in
+      search (rules, ints)
+
+  pub account_sum_fits : SFits w64 (to_z w64 (of_z w64 (account_at l.traders p.trader)) +ℤ to_z w64 (of_z w64 by))
+  account_sum_fits = rw (to_z-of_z w64 (account_at l.traders p.trader) fz, to_z-of_z w64 by fb) account_fits
+
+  pub rest_difference_fits : SFits w64 (to_z w64 (of_z w64 l.correction) -ℤ to_z w64 (of_z w64 by))
+  rest_difference_fits = rw (to_z-of_z w64 l.correction fc, to_z-of_z w64 by fb) rest_fits
+
+  abbrev with_both : ℤ → ℤ → Book
+  with_both x y =
+      record l {
+        traders = set l.traders p.trader (record { account = x; metered = metered_at l.traders p.trader });
+        counts = one_more_booking l.counts;
+        correction = y;
+      }
+
+  pub row_booked : with_both (to_z w64 (of_z w64 (to_z w64 (of_z w64 (account_at l.traders p.trader)) +ℤ to_z w64 (of_z w64 by)))) (to_z w64 (of_z w64 (to_z w64 (of_z w64 l.correction) -ℤ to_z w64 (of_z w64 by)))) ≡ booked_book l p
+  row_booked =
+      let z = account_at l.traders p.trader in
+      let y = to_z w64 (of_z w64 by) in
+      let b : y ≡ row_correction p = to_z-of_z w64 by fb ∙ e in
+      let account : to_z w64 (of_z w64 (to_z w64 (of_z w64 z) +ℤ y)) ≡ z +ℤ row_correction p =
+      to_z-of_z w64 (to_z w64 (of_z w64 z) +ℤ y) account_sum_fits ∙ ap (λ (x : ℤ). x +ℤ y) (to_z-of_z w64 z fz) ∙ ap (λ (x : ℤ). z +ℤ x) b in
+      let rest : to_z w64 (of_z w64 (to_z w64 (of_z w64 l.correction) -ℤ y)) ≡ l.correction -ℤ row_correction p =
+      to_z-of_z w64 (to_z w64 (of_z w64 l.correction) -ℤ y) rest_difference_fits ∙ ap (λ (x : ℤ). x -ℤ y) (to_z-of_z w64 l.correction fc) ∙ ap (λ (x : ℤ). l.correction -ℤ x) b in
+      ap (λ (x : ℤ). with_both x (to_z w64 (of_z w64 (to_z w64 (of_z w64 l.correction) -ℤ y)))) account ∙ ap (with_both (z +ℤ row_correction p)) rest

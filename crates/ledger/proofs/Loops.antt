@@ -1,15 +1,10 @@
 -- What one turn of a loop does, over plain lists and numbers.
-use Rattle.std.proofs.Common.{◌≡◌, ℕ, zero, suc, ◌+◌, ◌<◌, ◌≤◌, List, [], ◌∷◌, ◌++◌, map, length, get_or, take, drop, set, pos, ◌+ℤ◌, sum, sym, refl, ap, ◌∙◌, subst, arith}
+use Rattle.std.proofs.Common.{◌≡◌, ℕ, zero, suc, ◌+◌, ◌<◌, ◌≤◌, List, [], ◌∷◌, ◌++◌, map, length, get_or, take, drop, set, pos, ◌+ℤ◌, sym, refl, ap, ◌∙◌, subst, arith}
 use Rattle.std.proofs.lemmas.List.Edits.{map_over_more}
-use Rattle.std.proofs.lemmas.List.{length-append, length-map, length-take, length-drop, get_or_default, take_all, drop_all, append-nil, take_more_set, map_more, take-append-drop}
+use Rattle.std.proofs.lemmas.List.{length-append, length-map, length-take, length-drop, get_or_default, take_all, drop_all, append-nil}
 use Rattle.std.proofs.lemmas.Int.{ints}
-use Rattle.std.proofs.lemmas.List.Sums.{sum_by_more, sum-map}
-use Rattle.profiles.specs.declared.factors.Factors.{Factors}
-use Rattle.ledger.specs.declared.book.Book.{Book}
 use Rattle.ledger.specs.declared.book.Trader.{Trader}
-use Rattle.ledger.specs.declared.point.Point.{Point}
-use Rattle.ledger.specs.Accounts.{no_trader, account_at, metered_at, metered_sum, all_accounts, with_traders}
-use Rattle.ledger.specs.Rows.{no_row, row_at, profile_use, profile_uses}
+use Rattle.ledger.specs.Accounts.{no_trader, account_at, all_accounts}
 
 -- the traders in the middle of a pass that changes each by f
 abbrev pub partly : (Trader → Trader) → List Trader → ℕ → List Trader
@@ -18,21 +13,16 @@ partly f ts i = map f (take i ts) ++ drop i ts
 length-partly : (f : Trader → Trader) (ts : List Trader) (i : ℕ) → i ≤ length ts → length (partly f ts i) ≡ length ts
 length-partly f ts i h = simp (length-append, length-map, length-take, length-drop) (omega arith)
 
-pub map_step : (f : Trader → Trader) (l₀ l : Book) (i : ℕ) (x : Trader) → i < length l₀.traders → l ≡ with_traders l₀ (partly f l₀.traders i) → x ≡ f (get_or l.traders i no_trader) → with_traders l (set l.traders i x) ≡ with_traders l₀ (partly f l₀.traders (i + 1))
-map_step f l₀ l i x h e v =
-    let ts = l₀.traders in
-    let ys = partly f ts i in
-    let inside : i < length ys = let k = length-partly f ts i (omega arith) in omega arith in
-    let y = get_or ys i no_trader in
-    let one : set ys i (f y) ≡ partly f ts (i + 1) = map_over_more f ts ys i y h refl (get_or_default ys i no_trader y inside) in
-    let P : Book → Type 0 = λ m. (w : Trader) → w ≡ f (get_or m.traders i no_trader) → with_traders m (set m.traders i w) ≡ with_traders l₀ (partly f ts (i + 1)) in
-    subst P (sym e) (λ w q. ap (λ u. with_traders l₀ (set ys i u)) q ∙ ap (with_traders l₀) one) x v
+pub map_step : (f : Trader → Trader) (ts ys : List Trader) (i : ℕ) (x : Trader) → i < length ts → ys ≡ partly f ts i → x ≡ f (get_or ys i no_trader) → set ys i x ≡ partly f ts (i + 1)
+map_step f ts ys i x h e v =
+    let zs = partly f ts i in
+    let inside : i < length zs = let k = length-partly f ts i (omega arith) in omega arith in
+    let y = get_or zs i no_trader in
+    let one : set zs i (f y) ≡ partly f ts (i + 1) = map_over_more f ts zs i y h refl (get_or_default zs i no_trader y inside) in
+    cc
 
-pub map_done : (f : Trader → Trader) (l₀ l : Book) (i : ℕ) → length l₀.traders ≤ i → l ≡ with_traders l₀ (partly f l₀.traders i) → l ≡ with_traders l₀ (map f l₀.traders)
-map_done f l₀ l i h e =
-    let ts = l₀.traders in
-    let p : partly f ts i ≡ map f ts = rw (take_all i ts h, drop_all i ts h) (append-nil (map f ts)) in
-    e ∙ ap (with_traders l₀) p
+pub map_done : (f : Trader → Trader) (ts ys : List Trader) (i : ℕ) → length ts ≤ i → ys ≡ partly f ts i → ys ≡ map f ts
+map_done f ts ys i h e = e ∙ rw (take_all i ts h, drop_all i ts h) (append-nil (map f ts))
 
 partly_at : (f : Trader → Trader) (ts : List Trader) (i : ℕ) (d : Trader) → get_or (partly f ts i) i d ≡ get_or ts i d
 partly_at f [] zero d = refl
@@ -41,11 +31,8 @@ partly_at f (t ∷ ts) zero d = refl
 partly_at f (t ∷ ts) (suc i) d = partly_at f ts i d
 
 -- what holds of trader i still holds before his turn
-pub still : (P : Trader → Type 0) (f : Trader → Trader) (l₀ l : Book) (i : ℕ) → l ≡ with_traders l₀ (partly f l₀.traders i) → P (get_or l₀.traders i no_trader) → P (get_or l.traders i no_trader)
-still P f l₀ l i e h = subst P (sym (ap (λ (m : Book). get_or m.traders i no_trader) e ∙ partly_at f l₀.traders i no_trader)) h
-
-pub metered_step : (ts : List Trader) (i a : ℕ) → i < length ts → a ≡ metered_sum (take i ts) → a + metered_at ts i ≡ metered_sum (take (i + 1) ts)
-metered_step ts i a h e = ap (λ n. n + metered_at ts i) e ∙ sym (sum_by_more (λ (t : Trader). t.metered) ts i no_trader h)
+pub still : (P : Trader → Type 0) (f : Trader → Trader) (ts ys : List Trader) (i : ℕ) → ys ≡ partly f ts i → P (get_or ts i no_trader) → P (get_or ys i no_trader)
+still P f ts ys i e h = subst P (sym (ap (λ us. get_or us i no_trader) e ∙ partly_at f ts i no_trader)) h
 
 -- the accounts of the first i traders together, one more
 pub accounts_more : (ts : List Trader) (i : ℕ) → i < length ts → all_accounts (take (i + 1) ts) ≡ all_accounts (take i ts) +ℤ account_at ts i
@@ -61,19 +48,3 @@ accounts_more (t ∷ ts) (suc i) h =
 pub accounts_none : all_accounts [] ≡ pos 0
 unfolding all_accounts
 accounts_none = refl
-
-module _ (told : ℕ → Factors) (s : List Point) where
-  -- the work sheet after one more row was weighed
-  pub weigh_step : (us : List ℕ) (i x : ℕ) → i < length us → i < length s → x ≡ profile_use (row_at s i).scale_factor (told (row_at s i).segment).day → take i us ≡ profile_uses told (take i s) → take (i + 1) (set us i x) ≡ profile_uses told (take (i + 1) s)
-  weigh_step us i x h k e t =
-      take_more_set us i x h ∙ ap (λ u. u ++ (x ∷ [])) t ∙ ap (λ y. profile_uses told (take i s) ++ (y ∷ [])) e
-      ∙ sym (map_more (λ (p : Point). profile_use p.scale_factor (told p.segment).day) s i no_row k)
-
-  pub weigh_sum : (i : ℕ) → i < length s → sum (profile_uses told (take (i + 1) s)) ≡ sum (profile_uses told (take i s)) + profile_use (row_at s i).scale_factor (told (row_at s i).segment).day
-  weigh_sum i k =
-      let g : Point → ℕ = λ p. profile_use p.scale_factor (told p.segment).day in
-      sum-map g (take (i + 1) s) ∙ sum_by_more g s i no_row k ∙ ap (λ n. n + g (row_at s i)) (sym (sum-map g (take i s)))
-
--- a front that was written, and the rest that was not
-pub front_and_rest : (us vs ws : List ℕ) (n : ℕ) → take n us ≡ vs → drop n us ≡ drop n ws → us ≡ vs ++ drop n ws
-front_and_rest us vs ws n a b = sym (take-append-drop n us) ∙ ap (λ u. u ++ drop n us) a ∙ ap (λ u. vs ++ u) b

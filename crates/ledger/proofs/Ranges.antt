@@ -1,10 +1,10 @@
 -- What the tests of a row say.
-use Rattle.std.proofs.Common.{◌≡◌, ℕ, ◌<◌, ◌≤◌, true, arith}
+use Rattle.std.proofs.Common.{◌≡◌, ℕ, ◌≤◌, true, arith}
 use Rattle.std.proofs.lemmas.Bool.{ltb-true, and_parts}
 use Rattle.std.proofs.lemmas.Bool.Decides.{nat_tests}
 use Rattle.ledger.specs.declared.point.Point.{Point}
-use Rattle.ledger.specs.Limits.{max_open_sum, max_period_sum}
-use Rattle.ledger.specs.Rows.{in_range, may_share, summable, open_sum_of}
+use Rattle.ledger.specs.Limits.{max_open_sum}
+use Rattle.ledger.specs.Rows.{Shareable, in_range, may_share, summable, open_sum_of}
 use Rattle.ledger.proofs.Corrections.{ranged}
 
 -- a trader's row that can be summed has an open sum within its limit
@@ -12,12 +12,6 @@ pub open_sum_small : (t : ℕ) (p : Point) → summable t p ≡ true → open_su
 open_sum_small t p e = grind (arith, nat_tests)
 
 -- a row that may be shared out to
-pub record Shareable (traders : ℕ) (p : Point) : Type 0 where
-  pub owned : p.trader < traders
-  pub segment : p.segment < 8
-  pub open_sum : p.open_sum ≤ max_open_sum
-  pub period_sum : p.period_sum ≤ max_period_sum
-
 pub shareable : (traders : ℕ) (p : Point) → may_share traders p ≡ true → Shareable traders p
 shareable traders p e =
     let a = and_parts (in_range p) _ e in

@@ -1,10 +1,16 @@
 -- Lemmas on the rows of a sheet: a test of each, and what the share-out writes.
-use Rattle.std.proofs.Common.{◌≡◌, ℕ, zero, suc, ◌+◌, ◌<◌, ◌≤◌, Bool, true, ◌&&◌, ◌≢◌, List, length, get_or, set, refl, ◌∙◌, subst, ⊎_elim, add-one, arith}
-use Rattle.std.proofs.lemmas.List.{length-set, get_or-set_same, get_or-set_other}
-use Rattle.std.proofs.lemmas.Bool.{and_parts, and_from, cases_lt}
+use Rattle.std.proofs.Common.{◌≡◌, ℕ, zero, suc, ◌+◌, ◌*◌, ◌<◌, ◌≤◌, Bool, true, ◌&&◌, leb, ◌≢◌, List, [], ◌∷◌, sum_by, length, get_or, take, drop, set, ◌++◌, sym, refl, ap, ◌∙◌, subst, ⊎_elim, add-one, arith}
+use Rattle.std.proofs.lemmas.List.{length-set, length-take-le, get_or-take, get_or-set_same, get_or-set_other, set-append_left, take-append-drop}
+use Rattle.std.specs.List.{list_all}
+use Rattle.std.proofs.lemmas.List.{take_more}
+use Rattle.std.proofs.lemmas.List.Sums.{sum_by-cons, sum_by_more}
+use Rattle.std.proofs.lemmas.List.Recursion.{and_push}
+use Rattle.std.proofs.lemmas.Bool.{leb-true, and_parts, and_from, cases_lt}
 use Rattle.profiles.specs.declared.factors.Factors.{Factors}
 use Rattle.ledger.specs.declared.point.Point.{Point}
-use Rattle.ledger.specs.Rows.{row_at, no_row, every, shared_row, shared_rows, open_sums, open_sum_of}
+use Rattle.ledger.specs.Limits.{max_open_sum}
+use Rattle.ledger.proofs.Ranges.{open_sum_small}
+use Rattle.ledger.specs.Rows.{row_at, no_row, sheet_fits, every, summable, shared_row, shared_rows, open_sums, open_sum_of}
 
 -- A test of each row.
 
@@ -31,6 +37,22 @@ unfolding every
 every_from test s zero f = refl
 every_from test s (suc n) f =
     and_from (every test s n) (test (row_at s n)) (every_from test s n (λ k h. f k (omega arith))) (f n (omega arith))
+
+-- a test of the first n rows, taken as a list of their own
+every_front_below : (test : Point → Bool) (s : List Point) (n k : ℕ) → k ≤ n → every test (take n s) k ≡ every test s k
+unfolding every
+every_front_below test s n zero h = refl
+every_front_below test s n (suc k) h =
+    ap (λ (b : Bool). b && test (row_at (take n s) k)) (every_front_below test s n k (omega arith))
+    ∙ ap (λ (p : Point). every test s k && test p) (get_or-take n s k no_row (omega arith))
+
+pub every_front : (test : Point → Bool) (s : List Point) (n : ℕ) → n ≤ length s → every test (take n s) (length (take n s)) ≡ every test s n
+every_front test s n h = ap (every test (take n s)) (length-take-le n s h) ∙ every_front_below test s n n (omega arith)
+
+pub tested : (test : Point → Bool) (s rows : List Point) (n : ℕ) (b : Bool) → sheet_fits n s ≡ true → rows ≡ take n s → b ≡ every test rows (length rows) → b ≡ every test s n
+tested test s rows n b fits e t =
+    let room : n ≤ length s = leb-true _ _ (and_parts (leb n (length s)) _ fits).0 in
+    t ∙ ap (λ (u : List Point). every test u (length u)) e ∙ every_front test s n room
 
 -- The rows once their shares were written.
 
@@ -72,12 +94,42 @@ module _ (told : ℕ → Factors) (s : List Point) (shares : List ℕ) where
       subst (λ (j : ℕ). row_at (set before n (x n)) j ≡ x j) e (get_or-set_same before n (x n) no_row w))
       (cases_lt k n)
 
+-- the first n rows, taken as a list of their own with its own shares
+pub shared_rows_part : (told : ℕ → Factors) (s : List Point) (shares : List ℕ) (n k : ℕ) → n ≤ length s → k ≤ n → shared_rows told (take n s) (take n shares) k ++ drop n s ≡ shared_rows told s shares k
+unfolding shared_rows
+shared_rows_part told s shares n zero r h = take-append-drop n s
+shared_rows_part told s shares n (suc k) r h =
+    let x : Point → ℕ → Point = λ p q. shared_row p q (told p.segment).multiplier in
+    let before = shared_rows told (take n s) (take n shares) k in
+    let len : length before ≡ n = length_shared_rows told (take n s) (take n shares) k ∙ length-take-le n s r in
+    sym (set-append_left before (drop n s) k (x (row_at (take n s) k) (get_or (take n shares) k 0)) (omega arith))
+    ∙ ap (λ u. set u k (x (row_at (take n s) k) (get_or (take n shares) k 0))) (shared_rows_part told s shares n k r (omega arith))
+    ∙ ap (λ (p : Point). set (shared_rows told s shares k) k (x p (get_or (take n shares) k 0))) (get_or-take n s k no_row (omega arith))
+    ∙ ap (λ (q : ℕ). set (shared_rows told s shares k) k (x (row_at s k) q)) (get_or-take n shares k 0 (omega arith))
+
 -- The open sums of a trader's points.
 
-pub open_sums_none : (t : ℕ) (s : List Point) → 0 ≡ open_sums t s 0
+-- the sum over the first n rows, taken as a list of their own
+pub open_sums_front : (t : ℕ) (s : List Point) (n : ℕ) → n ≤ length s → sum_by (open_sum_of t) (take n s) ≡ open_sums t s n
 unfolding open_sums
-open_sums_none t s = refl
+open_sums_front t s zero h = refl
+open_sums_front t s (suc n) h =
+    rw (← add-one) (sum_by_more (open_sum_of t) s n no_row (omega arith) ∙ ap (λ (k : ℕ). k + open_sum_of t (row_at s n)) (open_sums_front t s n (omega arith)))
 
-pub open_sums_more : (t : ℕ) (s : List Point) (i : ℕ) → open_sums t s i + open_sum_of t (row_at s i) ≡ open_sums t s (i + 1)
-unfolding open_sums
-open_sums_more t s i = rw add-one refl
+pub all_front : (test : Point → Bool) (s : List Point) (n : ℕ) → n ≤ length s → list_all test (take n s) ≡ every test s n
+unfolding every
+all_front test s zero h = refl
+all_front test s (suc n) h =
+    rw (← add-one) (ap (list_all test) (take_more s n no_row (omega arith)) ∙ and_push (list_all test) test refl (λ _ _. refl) (take n s) (row_at s n)
+    ∙ ap (λ (b : Bool). b && test (row_at s n)) (all_front test s n (omega arith)))
+
+-- rows that can be summed for a trader have open sums within their limit
+pub open_sums_small : (t : ℕ) (rows : List Point) → list_all (summable t) rows ≡ true → sum_by (open_sum_of t) rows ≤ length rows * max_open_sum
+open_sums_small t [] e = omega arith
+open_sums_small t (p ∷ ps) e =
+    let both = and_parts (summable t p) (list_all (summable t) ps) e in
+    let c = sum_by-cons (open_sum_of t) p ps in
+    let a = open_sum_small t p both.0 in
+    let b = open_sums_small t ps both.1 in
+    let r : sum_by (open_sum_of t) (p ∷ ps) ≤ length (p ∷ ps) * max_open_sum = omega arith in
+    r

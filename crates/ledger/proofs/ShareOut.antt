@@ -1,12 +1,12 @@
 -- A share-out from the facts of its steps: what was asked, weighed, divided, credited and settled.
-use Rattle.std.proofs.Common.{◌≡◌, ℕ, zero, suc, ◌+◌, ◌<◌, ◌≤◌, true, false, cond, ◌&&◌, eqb, ltb, List, [], ◌∷◌, ◌++◌, map, length, get_or, take, drop, set, replicate, pos, Some, None, Ok, Err, sum, Option, Result, sym, refl, ap, ◌∙◌, arith}
+use Rattle.std.proofs.Common.{◌≡◌, ℕ, zero, suc, ◌+◌, ◌<◌, ◌≤◌, true, false, cond, ◌&&◌, eqb, ltb, List, [], ◌∷◌, ◌++◌, map, length, get_or, take, drop, set, replicate, pos, Some, None, Ok, Err, sum, Option, Result, sym, refl, ap, ◌∙◌, subst, arith}
 use Rattle.std.specs.List.{range_with_len}
 use Rattle.std.proofs.lemmas.List.FromFn.{get_or-map-range_with_len}
 use Rattle.std.proofs.lemmas.List.{ext_get_or, length-map, length-take-le, get_or-map, get_or-take, get_or_append_left, take_at}
 use Rattle.std.proofs.lemmas.Bool.{false≢true, cond-true, cond-false}
 use Rattle.std.proofs.lemmas.Bool.Decides.{nat_tests}
 use Rattle.refusals.specs.declared.Refusal.{Refusal}
-use Rattle.refusals.specs.declared.Refusal.TheVariants.{NoWeight}
+use Rattle.refusals.specs.declared.Refusal.TheVariants.{ForeignSheet, NotRunning, SlipOpenAtShareOut, SegmentNotServed, NoWeight}
 use Rattle.profiles.specs.declared.factors.Factors.{Factors}
 use Rattle.profiles.specs.Laws.{both}
 use Rattle.ledger.specs.declared.book.Book.{Book}
@@ -17,18 +17,19 @@ use Rattle.ledger.specs.declared.day.Phase.TheVariants.{Idle, Open, Measured}
 use Rattle.refusals.specs.declared.Refused.{Refused}
 use Rattle.ledger.specs.declared.day.SharedOut.{SharedOut}
 use Rattle.ledger.specs.declared.point.Point.{Point}
-use Rattle.ledger.specs.Accounts.{Sound, credited_to, credited, settled, with_traders, day_holds, pending}
+use Rattle.ledger.specs.Accounts.{Sound, Settling, credited_to, credited, settled, day_holds, pending, reach}
 use Rattle.ledger.specs.Days.{is_measured}
 use Rattle.ledger.specs.Grounds.{handed_back, unless}
-use Rattle.ledger.specs.History.{LawfulRule}
-use Rattle.ledger.specs.Limits.{max_litres}
-use Rattle.ledger.specs.Rows.{row_at, no_row, may_share, factors_at, profile_use, profile_uses, shared_row, shared_rows}
-use Rattle.ledger.specs.Sharing.{Tells, Rule, Weighable, told_on, day_quantity, day_loss, day_uses, day_shares, share_grounds, no_weight, share_fault, share_told, share_answer, shared_book, share_book, share_sheet, share_uses, share_shares, one_more_shared}
+use Rattle.ledger.specs.History.{LawfulProfile, LawfulRule, Means, Goes, Shared, next}
+use Rattle.ledger.specs.Limits.{max_traders, max_litres}
+use Rattle.ledger.specs.Rows.{Shareable, row_at, no_row, sheet_fits, every, may_share, is_free, is_served, factors_at, profile_use, profile_uses, shared_row, shared_rows}
+use Rattle.ledger.specs.Sharing.{Tells, Rule, Weighable, Creditable, told_on, day_quantity, day_loss, day_uses, day_shares, share_grounds, no_weight, share_fault, share_told, share_answer, shared_book, share_book, share_sheet, share_uses, share_shares, one_more_shared}
 use Rattle.ledger.proofs.Accepted.{sharable}
-use Rattle.ledger.proofs.Keep.{shares_within}
+use Rattle.ledger.proofs.Crediting.{settling}
+use Rattle.ledger.proofs.Keep.{shares_within, shared_sound}
 use Rattle.ledger.proofs.Ranges.{shareable}
-use Rattle.ledger.proofs.Rows.{every_at}
-use Rattle.ledger.proofs.Traders.{sum_cons}
+use Rattle.ledger.proofs.Rows.{every_at, shared_rows_part}
+use Rattle.ledger.proofs.Traders.{near_more, sum_cons, credited_to_part}
 
 -- lists by their first places
 
@@ -77,10 +78,10 @@ none_left (x ∷ xs) e =
     let b : sum xs ≡ 0 = omega arith in
     ap (λ (y : ℕ). y ∷ xs) a ∙ ap (λ u. 0 ∷ u) (none_left xs b)
 
-pub quantity_small : (ph : Phase) (m next : ℕ) → day_holds ph m next ≡ true → day_quantity ph ≤ max_litres
-quantity_small Idle m next e = omega arith
-quantity_small (Open n w) m next e = omega arith
-quantity_small (Measured n w g x q) m next e = grind (arith, nat_tests)
+pub quantity_small : (ph : Phase) (m today : ℕ) → day_holds ph m today ≡ true → day_quantity ph ≤ max_litres
+quantity_small Idle m today e = omega arith
+quantity_small (Open n w) m today e = omega arith
+quantity_small (Measured n w g x q) m today e = grind (arith, nat_tests)
 
 -- a measured day is running
 measured_pending : (ph : Phase) (k : ℕ) → is_measured ph k ≡ true → pending ph ≡ 1
@@ -119,9 +120,33 @@ module _ (l : Book) (s : List Point) (tells-of : Tells) (places : ℕ) (ok : Wei
 length-uses : (l : Book) (s : List Point) (tells-of : Tells) → l.counts.points ≤ length s → length (day_uses l s tells-of) ≡ l.counts.points
 length-uses l s tells-of h = length-map (take l.counts.points s) _ ∙ length-take-le l.counts.points s h
 
+-- Testing the rows: which ground of a share-out is met, by what the tests of all rows told.
+
+module _ (l : Book) (day : MeasuredDay) (s : List Point) (segments uses shares : ℕ) (fits : sheet_fits l.counts.points s ≡ true) (u : l.counts.points ≤ uses) (h : l.counts.points ≤ shares) where
+  pub foreign : every (may_share l.counts.traders) s l.counts.points ≡ false → share_grounds l day s segments uses shares ≡ Some ForeignSheet
+  foreign a = grind (arith, nat_tests)
+
+  pub not_running : every (may_share l.counts.traders) s l.counts.points ≡ true → is_measured l.phase day.number ≡ false → share_grounds l day s segments uses shares ≡ Some NotRunning
+  not_running a b = grind (arith, nat_tests)
+
+  pub slip_open : every (may_share l.counts.traders) s l.counts.points ≡ true → is_measured l.phase day.number ≡ true → every is_free s l.counts.points ≡ false → share_grounds l day s segments uses shares ≡ Some SlipOpenAtShareOut
+  slip_open a b c = grind (arith, nat_tests)
+
+  pub not_served : every (may_share l.counts.traders) s l.counts.points ≡ true → is_measured l.phase day.number ≡ true → every is_free s l.counts.points ≡ true → every (is_served segments) s l.counts.points ≡ false → share_grounds l day s segments uses shares ≡ Some SegmentNotServed
+  not_served a b c d = grind (arith, nat_tests)
+
+  pub no_share_ground : every (may_share l.counts.traders) s l.counts.points ≡ true → is_measured l.phase day.number ≡ true → every is_free s l.counts.points ≡ true → every (is_served segments) s l.counts.points ≡ true → share_grounds l day s segments uses shares ≡ None
+  no_share_ground a b c d = grind (arith, nat_tests)
+
 -- Closing the day, by a rule and the weights in the first places of a work sheet.
 
-module _ (l : Book) (s : List Point) (rule : Rule) (law : LawfulRule rule) (so : Sound l) (us ss ss' : List ℕ) (ok : Weighable l s (length us))
+-- a running day's figures, with what was metered, are no more than a day can bring
+day_small : (ph : Phase) (m today : ℕ) → day_holds ph m today ≡ true → m ≤ max_litres → pending ph ≡ 1 → day_quantity ph + day_loss ph + m ≤ max_litres
+day_small Idle m today e h p = omega arith
+day_small (Open n w) m today e h p = omega arith
+day_small (Measured n w g x q) m today e h p = grind (arith, nat_tests)
+
+module _ (l : Book) (s : List Point) (rule : Rule) (law : LawfulRule rule) (so : Sound l) (us ss ss' : List ℕ) (ok : Weighable l s (length us)) (room : l.counts.points ≤ length ss)
     (quantity : ℕ) (q : quantity ≡ day_quantity l.phase)
     (d : ss' ≡ rule quantity (take l.counts.points us) ++ drop l.counts.points ss) where
   shares_of : List ℕ
@@ -131,63 +156,120 @@ module _ (l : Book) (s : List Point) (rule : Rule) (law : LawfulRule rule) (so :
   unfolding shares_of
   length_shares = law.places _ (take l.counts.points us) ∙ length-take-le l.counts.points us ok.uses
 
-  pub given_is : ss' ≡ rule (day_quantity l.phase) (take l.counts.points us) ++ drop l.counts.points ss
+  given_is : ss' ≡ rule (day_quantity l.phase) (take l.counts.points us) ++ drop l.counts.points ss
   given_is = d ∙ ap (λ (x : ℕ). rule x (take l.counts.points us) ++ drop l.counts.points ss) q
 
-  -- the shares come to no more than the quantity
-  pub front_small : sum (take l.counts.points ss') ≤ max_litres
+  front_is_shares : take l.counts.points ss' ≡ shares_of
   unfolding shares_of
-  front_small =
+  front_is_shares = ap (take l.counts.points) given_is ∙ take_at shares_of (drop l.counts.points ss) l.counts.points length_shares
+
+  -- the shares come to no more than the quantity
+  sum_small : sum shares_of ≤ day_quantity l.phase
+  unfolding shares_of
+  sum_small = shares_within law (day_quantity l.phase) (take l.counts.points us)
+
+  pub creditable : Creditable l.traders (take l.counts.points s) (take l.counts.points ss')
+  creditable =
       let n = l.counts.points in
-      let f : take n ss' ≡ shares_of = ap (take n) given_is ∙ take_at shares_of (drop n ss) n length_shares in
-      let e = ap sum f in
-      let a = shares_within law (day_quantity l.phase) (take n us) in
-      let b = quantity_small l.phase _ _ so.day in
-      omega arith
-
-  pub record Closed (told : ℕ → Factors) (m : Book) (s' : List Point) : Type 0 where
-    pub state : m ≡ shared_book l s (rule (day_quantity l.phase) (take l.counts.points us))
-    pub rows : s' ≡ shared_rows told s (rule (day_quantity l.phase) (take l.counts.points us)) l.counts.points
-
-  abbrev with_day_closed : Book → ℕ → Book
-  with_day_closed m x =
+      let few = so.traders in
       record {
-        traders = m.traders;
-        counts = one_more_shared m.counts;
-        loss = m.loss + x;
-        correction = m.correction;
-        next_day = m.next_day + 1;
+        places = so.places;
+        each = ap length front_is_shares ∙ length_shares ∙ sym (length-take-le n s ok.room);
+        rows =
+            λ k h.
+            let len = length-take-le n s ok.room in
+            let below : k < n = omega arith in
+            let r = shareable l.counts.traders (row_at s k) (every_at (may_share l.counts.traders) s n k ok.rows below) in
+            let own = r.owned in
+            subst (Shareable max_traders) (sym (get_or-take n s k no_row below))
+            (record { owned = omega arith; segment = r.segment; open_sum = r.open_sum; period_sum = r.period_sum });
+        small =
+            let e = ap sum front_is_shares in
+            let a = sum_small in
+            let b = quantity_small l.phase _ _ so.day in
+            omega arith;
+        accounts =
+            λ t.
+            let a = so.shared in
+            let b = so.bookings in
+            let r = so.readings in
+            near_more _ (reach l.counts) 5_900_000_000_000_000_000 (so.accounts t) (omega arith);
+      }
+
+  pub ready : (ts : List Trader) → ts ≡ credited_to l.traders (take l.counts.points s) (take l.counts.points ss') (length (take l.counts.points s)) → Settling ts
+  ready ts e = subst Settling (sym e) (settling l.traders (take l.counts.points s) (take l.counts.points ss') (length (take l.counts.points s)) so.places so.metered creditable)
+
+  abbrev day_closed : List Trader → ℕ → Book
+  day_closed ts x =
+      record l {
+        traders = ts;
+        counts = one_more_shared l.counts;
+        loss = l.loss + x;
+        next_day = l.next_day + 1;
         phase = Idle;
       }
 
-  pub closed : (told : ℕ → Factors) (loss : ℕ) (l₁ l₂ : Book) (s₁ : List Point) → loss ≡ day_loss l.phase → l₁ ≡ with_traders l (credited_to l.traders s ss' l.counts.points) → s₁ ≡ shared_rows told s ss' l.counts.points → l₂ ≡ with_traders l₁ (map settled l₁.traders) → Closed told (with_day_closed l₂ loss) s₁
+  pub closed_book : (loss : ℕ) (ts₁ ts₂ : List Trader) → loss ≡ day_loss l.phase → ts₁ ≡ credited_to l.traders (take l.counts.points s) (take l.counts.points ss') (length (take l.counts.points s)) → ts₂ ≡ map settled ts₁ → day_closed ts₂ loss ≡ shared_book l s (rule (day_quantity l.phase) (take l.counts.points us))
   unfolding shares_of
-  closed told loss l₁ l₂ s₁ x e₁ r₁ e₂ =
+  closed_book loss ts₁ ts₂ x e₁ e₂ =
       let n = l.counts.points in
-      let long : n ≤ length shares_of = let p = length_shares in omega arith in
-      let traders : credited_to l.traders s ss' n ≡ credited_to l.traders s shares_of n = ap (λ u. credited_to l.traders s u n) given_is ∙ credited_to_front l.traders s shares_of (drop n ss) n long in
-      record {
-        state =
-            ap (λ (b : Book). with_day_closed b loss) (e₂ ∙ ap (λ (b : Book). with_traders b (map settled b.traders)) e₁)
-            ∙ ap (λ (y : ℕ). with_day_closed (with_traders l (map settled (credited_to l.traders s ss' n))) y) x
-            ∙ ap (λ ts. with_day_closed (with_traders l (map settled ts)) (day_loss l.phase)) traders;
-        rows = r₁ ∙ ap (λ u. shared_rows told s u n) given_is ∙ shared_rows_front told s shares_of (drop n ss) n long;
-      }
+      let len = length-take-le n s ok.room in
+      let traders : credited_to l.traders (take n s) (take n ss') (length (take n s)) ≡ credited_to l.traders s shares_of n =
+      ap (credited_to l.traders (take n s) (take n ss')) len ∙ credited_to_part l.traders s ss' n n (omega arith)
+      ∙ ap (λ (u : List ℕ). credited_to l.traders s u n) given_is ∙ credited_to_front l.traders s shares_of (drop n ss) n (let p = length_shares in omega arith) in
+      ap (λ (y : ℕ). day_closed ts₂ y) x
+      ∙ ap (λ (ts : List Trader). day_closed ts (day_loss l.phase)) (e₂ ∙ ap (map settled) (e₁ ∙ traders))
 
--- The call as a whole, once its first grounds are passed.
+  pub closed_rows : (told : ℕ → Factors) (rows : List Point) → rows ≡ shared_rows told (take l.counts.points s) (take l.counts.points ss') (length (take l.counts.points s)) → rows ++ drop l.counts.points s ≡ shared_rows told s (rule (day_quantity l.phase) (take l.counts.points us)) l.counts.points
+  unfolding shares_of
+  closed_rows told rows r =
+      let n = l.counts.points in
+      let len = length-take-le n s ok.room in
+      ap (λ (u : List Point). u ++ drop n s) (r ∙ ap (shared_rows told (take n s) (take n ss')) len) ∙ shared_rows_part told s ss' n n ok.room (omega arith)
+      ∙ ap (λ (u : List ℕ). shared_rows told s u n) given_is ∙ shared_rows_front told s shares_of (drop n ss) n (let p = length_shares in omega arith)
 
+  pub closed_sound : pending l.phase ≡ 1 → Sound (shared_book l s (rule (day_quantity l.phase) (take l.counts.points us)))
+  unfolding shares_of
+  closed_sound due =
+      let a = sum_small in
+      let b = day_small l.phase _ _ so.day so.metered due in
+      shared_sound l s shares_of so due (omega arith)
+
+-- The call as a whole.
+
+-- what a share-out with these means tells and leaves
+pub record Answered (l : Book) (day : MeasuredDay) (s : List Point) (tells-of : Tells) (segments : ℕ) (rule : Rule) (us ss : List ℕ) (r : Result SharedOut (Refused MeasuredDay)) (m : Book) (s' : List Point) (us' ss' : List ℕ) : Type 0 where
+  pub answer : r ≡ share_answer l day s tells-of segments (length us) (length ss)
+  pub state : m ≡ share_book l day s tells-of rule segments (length us) (length ss)
+  pub rows : s' ≡ share_sheet l day s tells-of rule segments (length us) (length ss)
+  pub weighed : us' ≡ share_uses l day s tells-of segments us (length ss)
+  pub given : ss' ≡ share_shares l day s tells-of rule segments (length us) ss
+
+-- it continues the ledger's history, where profile and rule are lawful
+pub ran : (l : Book) (day : MeasuredDay) (s : List Point) (m : Means) (r : Result SharedOut (Refused MeasuredDay)) (l' : Book) (s' : List Point) (us' ss' : List ℕ) → LawfulProfile m.tells → LawfulRule m.rule → Answered l day s m.tells m.segments m.rule m.uses m.shares r l' s' us' ss' → Goes (Shared day m r us' ss') l s l' s'
+ran l day s m r l' s' us' ss' profile rule a =
+    λ h p. next p (record { profile = profile; rule = rule; answer = a.answer; state = a.state; rows = a.rows; weighed = a.weighed; given = a.given })
+
+-- one of the first grounds is met
+pub turned_away : (l : Book) (day : MeasuredDay) (s : List Point) (tells-of : Tells) (segments : ℕ) (rule : Rule) (us ss : List ℕ) (why : Refusal) → share_grounds l day s segments (length us) (length ss) ≡ Some why → Answered l day s tells-of segments rule us ss (Err (record { why = why; given = day })) l s us ss
+turned_away l day s tells-of segments rule us ss why some =
+    let n = l.counts.points in
+    let fault : share_fault l day s tells-of segments (length us) (length ss) ≡ Some why =
+    ap (λ (o : Option Refusal). unless o (cond (no_weight l s tells-of) (Some NoWeight) None) o) some in
+    record {
+      answer = sym (ap (λ (o : Option Refusal). handed_back o day (share_told l s tells-of)) fault);
+      state = sym (ap (λ (o : Option Refusal). unless o (shared_book l s (day_shares l s tells-of rule)) l) fault);
+      rows = sym (ap (λ (o : Option Refusal). unless o (shared_rows (told_on l.phase tells-of) s (day_shares l s tells-of rule) n) s) fault);
+      weighed = sym (ap (λ (o : Option Refusal). unless o (cond (no_weight l s tells-of) (replicate n 0) (day_uses l s tells-of) ++ drop n us) us) some);
+      given = sym (ap (λ (o : Option Refusal). unless o (day_shares l s tells-of rule ++ drop n ss) ss) fault);
+    }
+
+-- its first grounds are passed
 module _ (l : Book) (day : MeasuredDay) (s : List Point) (tells-of : Tells) (segments : ℕ) (us ss us' : List ℕ) (rule : Rule) (total quantity : ℕ)
     (none : share_grounds l day s segments (length us) (length ss) ≡ None)
     (e : us' ≡ day_uses l s tells-of ++ drop l.counts.points us) (t : total ≡ sum (day_uses l s tells-of)) (q : quantity ≡ day_quantity l.phase) where
-  pub record Answered (r : Result SharedOut (Refused MeasuredDay)) (m : Book) (s' : List Point) (ss' : List ℕ) : Type 0 where
-    pub answer : r ≡ share_answer l day s tells-of segments (length us) (length ss)
-    pub state : m ≡ share_book l day s tells-of rule segments (length us) (length ss)
-    pub rows : s' ≡ share_sheet l day s tells-of rule segments (length us) (length ss)
-    pub weighed : us' ≡ share_uses l day s tells-of segments us (length ss)
-    pub given : ss' ≡ share_shares l day s tells-of rule segments (length us) ss
-
   -- the quantity was above nought and nobody had any weight
-  pub weightless : 0 < quantity → total ≡ 0 → Answered (Err (record { why = NoWeight; given = day })) l s ss
+  pub weightless : 0 < quantity → total ≡ 0 → Answered l day s tells-of segments rule us ss (Err (record { why = NoWeight; given = day })) l s us' ss
   weightless some z =
       let n = l.counts.points in
       let room = (passed l day s segments (length us) (length ss) none).room in
@@ -216,7 +298,7 @@ module _ (l : Book) (day : MeasuredDay) (s : List Point) (tells-of : Tells) (seg
       ss' ≡ rule (day_quantity l.phase) (take l.counts.points us') ++ drop l.counts.points ss →
       m ≡ shared_book l s (rule (day_quantity l.phase) (take l.counts.points us')) →
       s' ≡ shared_rows (factors_at told) s (rule (day_quantity l.phase) (take l.counts.points us')) l.counts.points →
-      Answered (Ok (record { quantity = quantity; total = total; loss = loss })) m s' ss'
+      Answered l day s tells-of segments rule us ss (Ok (record { quantity = quantity; total = total; loss = loss })) m s' us' ss'
   shared_out loss told m s' ss' x asked some d b r =
       let n = l.counts.points in
       let ok = passed l day s segments (length us) (length ss) none in

@@ -1,12 +1,12 @@
 -- Lemmas on lists of traders: their accounts and metered sums after an entry, a credit and the end of a day.
 use Rattle.std.proofs.Common.{◌≡◌, ℕ, zero, suc, ◌+◌, ◌<◌, ◌≤◌, cond, eqb, List, [], ◌∷◌, map, length, get_or, take, set, replicate, ℤ, pos, ◌+ℤ◌, ◌-ℤ◌, sum, sym, refl, ap, ◌∙◌, add_comm, zero-add, add-one, arith}
-use Rattle.std.proofs.lemmas.List.{length-set}
+use Rattle.std.proofs.lemmas.List.{length-set, get_or-take}
 use Rattle.std.proofs.lemmas.List.Sums.{sum_by-cons, sum_by-set, sum_by-take-le}
 use Rattle.std.proofs.lemmas.Int.{ints}
 use Rattle.ledger.specs.declared.book.Trader.{Trader}
 use Rattle.ledger.specs.declared.point.Point.{Point}
 use Rattle.ledger.specs.Accounts.{no_trader, account_at, metered_at, metered_sum, credited, credited_to, entered, settled, unmetered, Near}
-use Rattle.ledger.specs.Rows.{row_at}
+use Rattle.ledger.specs.Rows.{no_row, row_at}
 use Rattle.ledger.proofs.Places.{by_eqb, set_at}
 
 -- Integers near nought.
@@ -211,3 +211,12 @@ module _ (ts : List Trader) (s : List Point) (shares : List ℕ) where
       at_set (λ (u : Trader). Near u.account c) before j _ t
       (near_more _ _ c (near_add (account_at before j) (pos q) _ q (near_credited_to i b h j) (near_pos q)) (omega arith))
       (near_more _ _ c (near_credited_to i b h t) (omega arith))
+
+-- the first n rows, taken as a list of their own with its own shares
+pub credited_to_part : (ts : List Trader) (s : List Point) (shares : List ℕ) (n k : ℕ) → k ≤ n → credited_to ts (take n s) (take n shares) k ≡ credited_to ts s shares k
+unfolding credited_to
+credited_to_part ts s shares n zero h = refl
+credited_to_part ts s shares n (suc k) h =
+    ap (λ (us : List Trader). credited us (row_at (take n s) k).trader (pos (get_or (take n shares) k 0))) (credited_to_part ts s shares n k (omega arith))
+    ∙ ap (λ (p : Point). credited (credited_to ts s shares k) p.trader (pos (get_or (take n shares) k 0))) (get_or-take n s k no_row (omega arith))
+    ∙ ap (λ (q : ℕ). credited (credited_to ts s shares k) (row_at s k).trader (pos q)) (get_or-take n shares k 0 (omega arith))

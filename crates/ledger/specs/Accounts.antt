@@ -64,37 +64,13 @@ new_book first =
     }
 
 abbrev pub with_traders : Book → List Trader → Book
-with_traders l ts =
-    record {
-      traders = ts;
-      counts = l.counts;
-      loss = l.loss;
-      correction = l.correction;
-      next_day = l.next_day;
-      phase = l.phase;
-    }
+with_traders l ts = record l { traders = ts }
 
 abbrev pub with_counts : Book → Counts → Book
-with_counts l c =
-    record {
-      traders = l.traders;
-      counts = c;
-      loss = l.loss;
-      correction = l.correction;
-      next_day = l.next_day;
-      phase = l.phase;
-    }
+with_counts l c = record l { counts = c }
 
 abbrev pub with_phase : Book → Phase → Book
-with_phase l p =
-    record {
-      traders = l.traders;
-      counts = l.counts;
-      loss = l.loss;
-      correction = l.correction;
-      next_day = l.next_day;
-      phase = p;
-    }
+with_phase l p = record l { phase = p }
 
 -- an integer at most b from nought
 pub record Near (z : ℤ) (b : ℕ) : Type 0 where

@@ -21,15 +21,7 @@ use Rattle.ledger.specs.Rows.{sheet_fits, particulars_fit, admitted_row, every, 
 -- Admitting a trader.
 
 abbrev pub one_more_trader : Counts → Counts
-one_more_trader c =
-    record {
-      traders = c.traders + 1;
-      points = c.points;
-      opened = c.opened;
-      shared = c.shared;
-      readings = c.readings;
-      bookings = c.bookings;
-    }
+one_more_trader c = record c { traders = c.traders + 1 }
 
 abbrev pub admit_fault : Book → Option Refusal
 admit_fault l = first_ground ((nat_le max_traders l.counts.traders, NoPlace) ∷ [])
@@ -43,15 +35,7 @@ admit_book l = unless (admit_fault l) (with_counts l (one_more_trader l.counts))
 -- Admitting a point.
 
 abbrev pub one_more_point : Counts → Counts
-one_more_point c =
-    record {
-      traders = c.traders;
-      points = c.points + 1;
-      opened = c.opened;
-      shared = c.shared;
-      readings = c.readings;
-      bookings = c.bookings;
-    }
+one_more_point c = record c { points = c.points + 1 }
 
 abbrev pub point_fault : Book → List Point → Given → Option Refusal
 point_fault l s g =
@@ -79,15 +63,7 @@ is_idle (Open n w) = false
 is_idle (Measured n w g x q) = false
 
 abbrev pub one_more_opened : Counts → Counts
-one_more_opened c =
-    record {
-      traders = c.traders;
-      points = c.points;
-      opened = c.opened + 1;
-      shared = c.shared;
-      readings = c.readings;
-      bookings = c.bookings;
-    }
+one_more_opened c = record c { opened = c.opened + 1 }
 
 abbrev pub open_fault : Book → ℤ → ℕ → Option Refusal
 open_fault l temperature season =
@@ -177,11 +153,15 @@ is_measured (Measured n w g x q) k = n == k
 abbrev pub ended : Book → Book
 ended l = with_phase (with_traders l (map unmetered l.traders)) Idle
 
+-- by whether the running day is the one that is to end
+abbrev pub abandon_fault : Bool → Option Refusal
+abandon_fault running = first_ground ((not running, NotRunning) ∷ [])
+
 abbrev pub abandon_open_fault : Book → OpenDay → Option Refusal
-abandon_open_fault l day = first_ground ((not (is_open l.phase day.number), NotRunning) ∷ [])
+abandon_open_fault l day = abandon_fault (is_open l.phase day.number)
 
 abbrev pub abandon_measured_fault : Book → MeasuredDay → Option Refusal
-abandon_measured_fault l day = first_ground ((not (is_measured l.phase day.number), NotRunning) ∷ [])
+abandon_measured_fault l day = abandon_fault (is_measured l.phase day.number)
 
 abbrev pub abandon_open_answer : Book → OpenDay → Result Unit (Refused OpenDay)
 abandon_open_answer l day = handed_back (abandon_open_fault l day) day tt

@@ -33,25 +33,9 @@ new_scale scale consumption period = cond (nat_lt 0 period) (min max_scale (cons
 
 -- Rows.
 
--- a row with its trader, reading, scale factor, sums, slip and kept reading as given
-abbrev pub row_with : Point → ℕ → ℕ → ℕ → ℕ → ℕ → ℕ → ℕ → Point
-row_with p trader reading scale open_sum period slip kept =
-    record {
-      trader = trader;
-      segment = p.segment;
-      digits = p.digits;
-      litres_per_unit = p.litres_per_unit;
-      reading = reading;
-      scale_factor = scale;
-      open_sum = open_sum;
-      period_sum = period;
-      slip = slip;
-      kept_reading = kept;
-    }
-
 -- a row with this slip and kept reading
 abbrev pub slipped : Point → ℕ → ℕ → Point
-slipped p slip kept = row_with p p.trader p.reading p.scale_factor p.open_sum p.period_sum slip kept
+slipped p slip kept = record p { slip = slip; kept_reading = kept }
 
 -- the litres used since the last booking, by the reading that the row keeps
 abbrev pub row_use : Point → ℕ
@@ -62,7 +46,16 @@ row_correction p = correction_of (row_use p) p.open_sum
 
 -- a row after its kept reading was booked, and the trader who has it then
 abbrev pub booked_row : Point → ℕ → Point
-booked_row p trader = row_with p trader p.kept_reading (new_scale p.scale_factor (row_use p) p.period_sum) 0 0 0 0
+booked_row p trader =
+    record p {
+      trader = trader;
+      reading = p.kept_reading;
+      scale_factor = new_scale p.scale_factor (row_use p) p.period_sum;
+      open_sum = 0;
+      period_sum = 0;
+      slip = 0;
+      kept_reading = 0;
+    }
 
 -- this number is the row's open slip
 abbrev pub is_slip_of : Point → ℕ → Bool
@@ -75,15 +68,7 @@ may_book traders p = in_range p && nat_lt p.trader traders
 -- Reading a point.
 
 abbrev pub one_more_reading : Counts → Counts
-one_more_reading c =
-    record {
-      traders = c.traders;
-      points = c.points;
-      opened = c.opened;
-      shared = c.shared;
-      readings = c.readings + 1;
-      bookings = c.bookings;
-    }
+one_more_reading c = record c { readings = c.readings + 1 }
 
 abbrev pub read_fault : Book → List Point → ℕ → ℕ → Option Refusal
 read_fault l s k reading =
@@ -108,26 +93,15 @@ read_sheet l s k reading = unless (read_fault l s k reading) (slice_set s k (sli
 -- Booking a slip.
 
 abbrev pub one_more_booking : Counts → Counts
-one_more_booking c =
-    record {
-      traders = c.traders;
-      points = c.points;
-      opened = c.opened;
-      shared = c.shared;
-      readings = c.readings;
-      bookings = c.bookings + 1;
-    }
+one_more_booking c = record c { bookings = c.bookings + 1 }
 
 -- the ledger after a row was booked: the correction is added to its trader's account and taken from the distributor's
 abbrev pub booked_book : Book → Point → Book
 booked_book l p =
-    record {
+    record l {
       traders = credited l.traders p.trader (row_correction p);
       counts = one_more_booking l.counts;
-      loss = l.loss;
       correction = l.correction -ℤ row_correction p;
-      next_day = l.next_day;
-      phase = l.phase;
     }
 
 -- the slip is not its point's open one, or there have been as many bookings as readings

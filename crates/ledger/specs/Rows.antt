@@ -1,9 +1,12 @@
 -- The rows of a point sheet: their ranges, what a point is expected to use, and what a share-out does to a row.
-use Rattle.std.specs.Prelude.{ℕ, zero, suc, ◌+◌, ◌*◌, ◌/◌, ◌^◌, Bool, true, cond, ◌&&◌, List, map, length, ◌==◌, nat_le, nat_lt, slice_index, slice_index_or, slice_set}
+use Rattle.std.specs.Prelude.{ℕ, zero, suc, ◌+◌, ◌*◌, ◌/◌, ◌^◌, ◌<◌, ◌≤◌, Bool, true, cond, not, ◌&&◌, List, [], ◌∷◌, map, length, Option, ◌==◌, nat_le, nat_lt, slice_index, slice_index_or, slice_set}
+use Rattle.refusals.specs.declared.Refusal.{Refusal}
+use Rattle.refusals.specs.declared.Refusal.TheVariants.{PointSheetLength, NoSuchPoint}
 use Rattle.profiles.specs.declared.factors.Factors.{Factors}
 use Rattle.profiles.specs.Laws.{both, whole}
 use Rattle.ledger.specs.declared.point.Point.{Point}
 use Rattle.ledger.specs.declared.point.Particulars.{Particulars}
+use Rattle.ledger.specs.Grounds.{first_ground}
 use Rattle.ledger.specs.Limits.{max_traders, max_scale, max_points, max_open_sum, max_period_sum, full_open_sum, full_period_sum}
 
 -- what a reader past the end of a sheet would see; no call reads there
@@ -29,6 +32,10 @@ row_at s k = slice_index_or s k no_row
 abbrev pub sheet_fits : ℕ → List Point → Bool
 sheet_fits n s = nat_le n (length s) && nat_le (length s) max_points
 
+-- why there is no row of a point to be had: the sheet does not fit the n points admitted, or the point is none of them
+abbrev pub row_fault : ℕ → List Point → ℕ → Option Refusal
+row_fault n s k = first_ground ((not (sheet_fits n s), PointSheetLength) ∷ (nat_le n k, NoSuchPoint) ∷ [])
+
 -- a dial of some digits, and a reading on it
 abbrev pub dial_fits : ℕ → ℕ → Bool
 dial_fits digits reading = nat_lt reading (10 ^ digits)
@@ -51,6 +58,13 @@ abbrev pub may_share : ℕ → Point → Bool
 may_share traders p =
     in_range p
     && (nat_lt p.trader traders && (nat_le p.open_sum full_open_sum && nat_le p.period_sum full_period_sum))
+
+-- what booking a share to a row asks of it: its trader is one of so many, and its sums are within their limits
+pub record Shareable (traders : ℕ) (p : Point) : Type 0 where
+  pub owned : p.trader < traders
+  pub segment : p.segment < 8
+  pub open_sum : p.open_sum ≤ max_open_sum
+  pub period_sum : p.period_sum ≤ max_period_sum
 
 -- no slip of the point is open
 abbrev pub is_free : Point → Bool
@@ -94,19 +108,7 @@ admitted_row g =
 
 -- a row after a day was shared out: the share joins its open sum, the multiplier its period sum
 abbrev pub shared_row : Point → ℕ → ℕ → Point
-shared_row p share multiplier =
-    record {
-      trader = p.trader;
-      segment = p.segment;
-      digits = p.digits;
-      litres_per_unit = p.litres_per_unit;
-      reading = p.reading;
-      scale_factor = p.scale_factor;
-      open_sum = p.open_sum + share;
-      period_sum = p.period_sum + multiplier;
-      slip = p.slip;
-      kept_reading = p.kept_reading;
-    }
+shared_row p share multiplier = record p { open_sum = p.open_sum + share; period_sum = p.period_sum + multiplier }
 
 -- the sheet once the first k rows have had their shares
 unfoldable pub shared_rows : (ℕ → Factors) → List Point → List ℕ → ℕ → List Point

@@ -1,21 +1,22 @@
 -- The share-out of a measured day: when it is refused, what it tells, and what every account, row and work sheet then holds.
-use Rattle.std.specs.Prelude.{◌≡◌, ℕ, ◌+◌, ◌≤◌, Bool, true, cond, not, ◌&&◌, ◌||◌, List, [], ◌∷◌, ◌++◌, map, length, take, drop, replicate, ℤ, Some, None, sum, Option, Result, ◌==◌, nat_lt}
+use Rattle.std.specs.Prelude.{◌≡◌, ℕ, ◌+◌, ◌<◌, ◌≤◌, Bool, true, cond, not, ◌&&◌, ◌||◌, List, [], ◌∷◌, ◌++◌, map, length, take, drop, replicate, ℤ, Some, None, sum, Option, Result, ◌==◌, nat_lt}
 use Rattle.refusals.specs.declared.Refusal.{Refusal}
 use Rattle.refusals.specs.declared.Refusal.TheVariants.{PointSheetLength, WorkSheetLength, ForeignSheet, NotRunning, SlipOpenAtShareOut, SegmentNotServed, NoWeight}
 use Rattle.profiles.specs.declared.factors.Factors.{Factors}
 use Rattle.ledger.specs.declared.book.Book.{Book}
 use Rattle.ledger.specs.declared.book.Counts.{Counts}
+use Rattle.ledger.specs.declared.book.Trader.{Trader}
 use Rattle.ledger.specs.declared.day.MeasuredDay.{MeasuredDay}
 use Rattle.ledger.specs.declared.day.Phase.{Phase}
 use Rattle.ledger.specs.declared.day.Phase.TheVariants.{Idle, Open, Measured}
 use Rattle.refusals.specs.declared.Refused.{Refused}
 use Rattle.ledger.specs.declared.day.SharedOut.{SharedOut}
 use Rattle.ledger.specs.declared.point.Point.{Point}
-use Rattle.ledger.specs.Accounts.{credited_to, settled}
+use Rattle.ledger.specs.Accounts.{Near, account_at, credited_to, settled}
 use Rattle.ledger.specs.Days.{is_measured, sky_in}
-use Rattle.ledger.specs.Limits.{max_points}
+use Rattle.ledger.specs.Limits.{max_traders, max_litres, max_points}
 use Rattle.ledger.specs.Grounds.{first_ground, handed_back, unless}
-use Rattle.ledger.specs.Rows.{sheet_fits, every, may_share, is_free, is_served, profile_uses, shared_rows}
+use Rattle.ledger.specs.Rows.{Shareable, row_at, sheet_fits, every, may_share, is_free, is_served, profile_uses, shared_rows}
 
 -- what a profile means: for a segment, a temperature and a season its two factors
 abbrev pub Tells : Type 0
@@ -50,6 +51,14 @@ pub record Weighable (l : Book) (s : List Point) (places : ℕ) : Type 0 where
   pub short : length s ≤ max_points
   pub uses : l.counts.points ≤ places
   pub rows : every (may_share l.counts.traders) s l.counts.points ≡ true
+
+-- rows whose shares can be booked: one share each, together no more than a day can bring, and no account near its limit
+pub record Creditable (ts : List Trader) (s : List Point) (shares : List ℕ) : Type 0 where
+  pub places : length ts ≡ max_traders
+  pub each : length shares ≡ length s
+  pub rows : (k : ℕ) → k < length s → Shareable max_traders (row_at s k)
+  pub small : sum shares ≤ max_litres
+  pub accounts : (t : ℕ) → Near (account_at ts t) 5_900_000_000_000_000_000
 
 -- the shares of the points admitted
 abbrev pub day_shares : Book → List Point → Tells → Rule → List ℕ
@@ -86,24 +95,15 @@ share_answer l day s tells segments uses shares =
     handed_back (share_fault l day s tells segments uses shares) day (share_told l s tells)
 
 abbrev pub one_more_shared : Counts → Counts
-one_more_shared c =
-    record {
-      traders = c.traders;
-      points = c.points;
-      opened = c.opened;
-      shared = c.shared + 1;
-      readings = c.readings;
-      bookings = c.bookings;
-    }
+one_more_shared c = record c { shared = c.shared + 1 }
 
 -- the ledger after its points had these shares: shares and metered sums are in the traders' accounts, the loss in its account
 abbrev pub shared_book : Book → List Point → List ℕ → Book
 shared_book l s shares =
-    record {
+    record l {
       traders = map settled (credited_to l.traders s shares l.counts.points);
       counts = one_more_shared l.counts;
       loss = l.loss + day_loss l.phase;
-      correction = l.correction;
       next_day = l.next_day + 1;
       phase = Idle;
     }

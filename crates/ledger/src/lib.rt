@@ -5,6 +5,7 @@
 mod book;
 mod day;
 mod ledger;
+mod limits;
 mod measured;
 mod point;
 mod slip;

@@ -2,7 +2,5 @@ use Rattle.std.proofs.Common.{refl}
 use Rattle.ledger.specs.History.{next}
 use Rattle.ledger.proofs.ledger.Ledger.abandon_measured.Goals as goal
 
-pub returns : goal.returns
-returns c =
-    let e = c.abandon_measured.ensures in
-    record { answer = e.answer; state = e.state; run = λ s h p. next p (record { answer = e.answer; state = e.state; rows = refl }) }
+pub returns-clause-run : goal.returns-clause-run
+returns-clause-run c = λ s h p. next p (record { answer = c.abandon.ensures.answer; state = c.abandon.ensures.state; rows = refl })

@@ -1,8 +1,9 @@
-use Rattle.std.proofs.Common.{refl}
+use Rattle.std.proofs.Common.{rules}
 use Rattle.ledger.specs.History.{next}
 use Rattle.ledger.proofs.ledger.Ledger.admit_trader.Goals as goal
 
-pub returns : goal.returns
-returns c =
-    let e = c.admit_trader.ensures in
-    record { answer = e.answer; state = e.state; run = λ s h p. next p (record { answer = e.answer; state = e.state; rows = refl }) }
+pub returns-then-number-ge-MAX_TRADERS-clause-run : goal.returns-then-number-ge-MAX_TRADERS-clause-run
+returns-then-number-ge-MAX_TRADERS-clause-run c = search (rules, next)
+
+pub returns-clause-run : goal.returns-clause-run
+returns-clause-run c = search (rules, next)

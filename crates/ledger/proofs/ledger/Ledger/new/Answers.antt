@@ -1,9 +1,12 @@
 use Rattle.std.proofs.Common.{[], sym, subst}
+use Rattle.ledger.specs.Accounts.{Sound}
 use Rattle.ledger.specs.History.{Leads, start}
 use Rattle.ledger.specs.declared.book.Book.{Book}
+use Rattle.ledger.proofs.Keep.{new_sound}
 use Rattle.ledger.proofs.ledger.Ledger.new.Goals as goal
 
-pub returns : goal.returns
-returns c =
-    let e = c.new.ensures in
-    record { state = e.state; run = λ s. subst (λ (b : Book). Leads [] b s) (sym e.state) (start c.args.first_day s) }
+pub returns-clause-run : goal.returns-clause-run
+returns-clause-run c = λ s. subst (λ (b : Book). Leads [] b s) (sym c.new.ensures) (start c.args.first_day s)
+
+pub invariant_of-result : goal.invariant_of-result
+invariant_of-result c = record { sound = subst Sound (sym c.new.ensures) (new_sound c.args.first_day) }

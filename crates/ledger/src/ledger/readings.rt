@@ -1,0 +1,259 @@
+// Readings: a slip is opened, and ended by a booking, a hand-over or a withdrawal.
+ghost use Rattle.std.specs.Prelude.{◌≡◌, ◌+◌, ◌*◌, ◌^◌, ◌<◌, ◌≤◌, true};
+ghost use Rattle.ledger.specs.Grounds.{answered};
+ghost use Rattle.ledger.specs.History.{Goes, PointRead, Booked, HandedOver, Withdrawn};
+ghost use Rattle.ledger.specs.Readings.{turned, new_scale, slipped, row_use, row_correction, booked_row, is_slip_of, may_book, booked_book};
+ghost use Rattle.ledger.specs.Readings.{read_fault, read_answer, read_book, read_sheet, book_fault, book_answer, book_book, book_sheet};
+ghost use Rattle.ledger.specs.Readings.{hand_fault, hand_answer, hand_book, hand_sheet, withdraw_fault, withdraw_answer, withdraw_sheet};
+ghost use Rattle.ledger.specs.Rows.{in_range, row_fault, row_at};
+
+use super::Ledger;
+use crate::limits::{MAX_READINGS, MAX_SCALE};
+use crate::point::{Point, dial_end};
+use crate::slip::Slip;
+use profiles::WHOLE;
+use refusals::{Refusal, Refused};
+
+// What a dial has turned between two readings. The two cases are the trade's rule; `checked_sub` would hide them.
+fn dial_turned(digits: u32, old: u32, new: u32) -> u32
+    requires few { 4 ≤ digits }
+    requires most { digits ≤ 8 }
+    requires old { old < 10 ^ digits }
+    requires new { new < 10 ^ digits }
+    ensures { result ≡ turned digits old new }
+{
+    let end = dial_end(digits);
+    if new < old {
+        new + end - old
+    } else {
+        new - old
+    }
+}
+
+impl Point {
+    // Whether this number is the row's open slip.
+    fn is_slip(&self, number: u32) -> bool
+        ensures { result ≡ is_slip_of self.now number }
+    {
+        self.slip != 0 && self.slip == number
+    }
+
+    // Whether the row can be booked, with so many traders admitted.
+    fn may_book(&self, traders: u32) -> bool
+        ensures { result ≡ may_book traders self.now }
+    {
+        self.in_range() && self.trader < traders
+    }
+
+    // The litres used since the last booking, by the reading that the row keeps.
+    fn kept_use(&self) -> u64
+        requires { in_range self.now ≡ true }
+        ensures value { result ≡ row_use self.now }
+        ensures bound { result ≤ 200_000_000_000 }
+    {
+        u64::from(dial_turned(self.digits, self.reading, self.kept_reading))
+            * u64::from(self.litres_per_unit)
+    }
+
+    // What booking the row moves.
+    fn correction(&self) -> i64
+        requires { in_range self.now ≡ true }
+        ensures { result ≡ row_correction self.now }
+    {
+        self.kept_use() as i64 - self.open_sum as i64
+    }
+
+    // The row with this slip and kept reading.
+    fn with_slip(self, slip: u32, kept_reading: u32) -> Point
+        ensures { result ≡ slipped self slip kept_reading }
+    {
+        Point {
+            slip,
+            kept_reading,
+            ..self
+        }
+    }
+
+    // The row after its kept reading was booked, and the trader who has it then.
+    fn booked(self, trader: u32) -> Point
+        requires { in_range self ≡ true }
+        ensures { result ≡ booked_row self trader }
+    {
+        Point {
+            trader,
+            reading: self.kept_reading,
+            scale_factor: scale_after(self.scale_factor, self.kept_use(), self.period_sum),
+            open_sum: 0,
+            period_sum: 0,
+            slip: 0,
+            kept_reading: 0,
+            ..self
+        }
+    }
+}
+
+// The scale factor after a booking.
+fn scale_after(scale_factor: u32, consumption: u64, period_sum: u64) -> u32
+    requires { consumption ≤ 200_000_000_000 }
+    ensures { result ≡ new_scale scale_factor consumption period_sum }
+{
+    match (consumption * u64::from(WHOLE)).checked_div(period_sum) {
+        Some(scale) => scale.min(u64::from(MAX_SCALE)) as u32,
+        None => scale_factor,
+    }
+}
+
+impl Ledger {
+    // The row of a point admitted.
+    fn row(&self, sheet: &[Point], point: usize) -> Result<Point, Refusal>
+        ensures { result ≡ answered (row_fault self.now.book.counts.points sheet.now point) (row_at sheet.now point) }
+    {
+        self.rows(sheet)?
+            .get(point)
+            .copied()
+            .ok_or(Refusal::NoSuchPoint)
+    }
+
+    // The row of a point that can be read.
+    fn readable(&self, sheet: &[Point], point: usize, reading: u32) -> Result<Point, Refusal>
+        ensures { result ≡ answered (read_fault self.now.book sheet.now point reading) (row_at sheet.now point) }
+    {
+        let row = self.row(sheet, point)?;
+        if !row.in_range() {
+            return Err(Refusal::ForeignSheet);
+        }
+        if reading >= dial_end(row.digits) {
+            return Err(Refusal::Particulars);
+        }
+        if row.slip != 0 {
+            return Err(Refusal::SlipOpen);
+        }
+        if self.book.counts.readings >= MAX_READINGS {
+            return Err(Refusal::NoMoreReadings);
+        }
+        Ok(row)
+    }
+
+    // Reads a point: its row keeps the reading until the slip ends.
+    pub fn read(&mut self, sheet: &mut [Point], point: usize, reading: u32) -> Result<Slip, Refusal>
+        ensures answer { result ≡ read_answer self.old.book sheet.old point reading }
+        ensures state { self.new.book ≡ read_book self.old.book sheet.old point reading }
+        ensures rows { sheet.new ≡ read_sheet self.old.book sheet.old point reading }
+        ensures run { Goes (PointRead point reading result) self.old.book sheet.old self.new.book sheet.new }
+    {
+        let row = self.readable(sheet, point, reading)?;
+        let number = self.book.counts.readings + 1;
+        self.book.counts.readings = number;
+        sheet[point] = row.with_slip(number, reading);
+        Ok(Slip { number, point })
+    }
+
+    // The row of a slip that can be booked: its own open one, where there are fewer bookings than readings.
+    fn bookable(&self, sheet: &[Point], slip: &Slip) -> Result<Point, Refusal>
+        ensures { result ≡ answered (book_fault self.now.book sheet.now slip.now) (row_at sheet.now slip.now.point) }
+    {
+        let row = self.row(sheet, slip.point)?;
+        if !row.may_book(self.book.counts.traders) {
+            return Err(Refusal::ForeignSheet);
+        }
+        if !row.is_slip(slip.number) || self.book.counts.bookings >= self.book.counts.readings {
+            return Err(Refusal::NotOpenSlip);
+        }
+        Ok(row)
+    }
+
+    // Adds the row's correction to its trader's account, and takes it from the distributor's.
+    fn book_row(&mut self, row: Point) -> i64
+        requires row { may_book self.old.book.counts.traders row ≡ true }
+        requires left { self.old.book.counts.bookings < self.old.book.counts.readings }
+        ensures told { result ≡ row_correction row }
+        ensures state { self.new.book ≡ booked_book self.old.book row }
+    {
+        let by = row.correction();
+        self.book.traders[row.trader as usize].account += by;
+        self.book.correction -= by;
+        self.book.counts.bookings += 1;
+        by
+    }
+
+    // Books a reading: the correction is added to the trader's account and taken from the distributor's.
+    pub fn book(&mut self, sheet: &mut [Point], slip: Slip) -> Result<i64, Refused<Slip>>
+        ensures answer { result ≡ book_answer self.old.book sheet.old slip }
+        ensures state { self.new.book ≡ book_book self.old.book sheet.old slip }
+        ensures rows { sheet.new ≡ book_sheet self.old.book sheet.old slip }
+        ensures run { Goes (Booked slip result) self.old.book sheet.old self.new.book sheet.new }
+    {
+        match self.bookable(sheet, &slip) {
+            Err(why) => Err(Refused { why, given: slip }),
+            Ok(row) => {
+                let Slip { number: _, point } = slip;
+                let told = self.book_row(row);
+                sheet[point] = row.booked(row.trader);
+                Ok(told)
+            }
+        }
+    }
+
+    // The row of a point that can be handed over.
+    fn transferable(&self, sheet: &[Point], slip: &Slip, trader: u32) -> Result<Point, Refusal>
+        ensures { result ≡ answered (hand_fault self.now.book sheet.now slip.now trader) (row_at sheet.now slip.now.point) }
+    {
+        self.rows(sheet)?;
+        self.trader(trader)?;
+        let row = self.bookable(sheet, slip)?;
+        if row.trader == trader {
+            return Err(Refusal::SameTrader);
+        }
+        Ok(row)
+    }
+
+    // Hands a point over: books the reading for the trader who had it, and then the point is the new trader's.
+    pub fn hand_over(
+        &mut self,
+        sheet: &mut [Point],
+        slip: Slip,
+        trader: u32,
+    ) -> Result<i64, Refused<Slip>>
+        ensures answer { result ≡ hand_answer self.old.book sheet.old slip trader }
+        ensures state { self.new.book ≡ hand_book self.old.book sheet.old slip trader }
+        ensures rows { sheet.new ≡ hand_sheet self.old.book sheet.old slip trader }
+        ensures run { Goes (HandedOver slip trader result) self.old.book sheet.old self.new.book sheet.new }
+    {
+        match self.transferable(sheet, &slip, trader) {
+            Err(why) => Err(Refused { why, given: slip }),
+            Ok(row) => {
+                let Slip { number: _, point } = slip;
+                let by = self.book_row(row);
+                sheet[point] = row.booked(trader);
+                Ok(by)
+            }
+        }
+    }
+
+    // The row of a point whose open slip this is.
+    fn withdrawable(&self, sheet: &[Point], slip: &Slip) -> Result<Point, Refusal>
+        ensures { result ≡ answered (withdraw_fault self.now.book sheet.now slip.now) (row_at sheet.now slip.now.point) }
+    {
+        let row = self.row(sheet, slip.point)?;
+        if !row.is_slip(slip.number) {
+            return Err(Refusal::NotOpenSlip);
+        }
+        Ok(row)
+    }
+
+    // Withdraws a reading: the slip ends and nothing is booked.
+    pub fn withdraw(&self, sheet: &mut [Point], slip: Slip) -> Result<(), Refused<Slip>>
+        ensures answer { result ≡ withdraw_answer self.now.book sheet.old slip }
+        ensures rows { sheet.new ≡ withdraw_sheet self.now.book sheet.old slip }
+        ensures run { Goes (Withdrawn slip result) self.now.book sheet.old self.now.book sheet.new }
+    {
+        match self.withdrawable(sheet, &slip) {
+            Err(why) => Err(Refused { why, given: slip }),
+            Ok(row) => {
+                let Slip { number: _, point } = slip;
+                sheet[point] = row.with_slip(0, 0);
+                Ok(())
+            }
+        }
+    }
+}
