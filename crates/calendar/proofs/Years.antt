@@ -1,5 +1,5 @@
 -- The days before a year and before a month: closed forms, bounds, and that no two days have one number.
-use Rattle.std.proofs.Common.{◌≡◌, ℕ, zero, suc, ◌+◌, ◌*◌, ◌/◌, ◌%◌, ◌<◌, ◌≤◌, Bool, true, false, refl, ap, ◌∙◌, ⊎_elim, add-one, arith}
+use Rattle.std.proofs.Common.{◌≡◌, ℕ, zero, suc, ◌+◌, ◌*◌, ◌/◌, ◌<◌, ◌≤◌, Bool, true, false, refl, ap, ◌∙◌, ⊎_elim, add-one, arith}
 use Rattle.std.proofs.lemmas.Bool.{cases_lt}
 use Rattle.std.proofs.lemmas.Bool.Decides.{nat_tests}
 use Rattle.calendar.specs.Days.{is_leap, year_length, month_length, days_before_month, days_before_year}
@@ -11,12 +11,6 @@ pub closed : (y : ℕ) → days_before_year y ≡ 365 * y + (y + 3) / 4
 unfolding days_before_year
 closed zero = refl
 closed (suc y) = ap (λ n. n + year_length (is_leap y)) (closed y) ∙ one_year y
-
-pub in_leap : (y d : ℕ) → y % 4 ≡ 0 → d < 366 → d < year_length (is_leap y)
-in_leap y d e h = grind (arith, nat_tests)
-
-pub in_any : (y d : ℕ) → d < 365 → d < year_length (is_leap y)
-in_any y d h = grind (arith, nat_tests)
 
 pub before_first : (leap : Bool) → days_before_month leap 0 ≡ 0
 unfolding days_before_month
@@ -34,7 +28,7 @@ before_last false = refl
 year_by_year : (y z : ℕ) → y < z → days_before_year y + year_length (is_leap y) ≤ days_before_year z
 year_by_year y z h = omega (arith, closed y, closed z, one_year y)
 
-month_by_month : (leap : Bool) (m n : ℕ) → m < n → days_before_month leap m + month_length leap m ≤ days_before_month leap n
+pub month_by_month : (leap : Bool) (m n : ℕ) → m < n → days_before_month leap m + month_length leap m ≤ days_before_month leap n
 unfolding days_before_month
 month_by_month leap m zero h = absurd (omega arith)
 month_by_month leap m (suc n) h =
@@ -75,12 +69,3 @@ one_day y m d z n e hm hn hd he eq =
     let mn : m ≡ n = same_month (is_leap z) m n d e hd' he (omega arith) in
     let eq'' : days_before_year z + days_before_month (is_leap z) n + d ≡ days_before_year z + days_before_month (is_leap z) n + e = rw mn at eq' in
     (yz, mn, omega arith)
-
-most : (leap : Bool) → days_before_month leap 11 ≤ 335
-unfolding days_before_month
-most true = omega arith
-most false = omega arith
-
-pub before_most : (leap : Bool) (m : ℕ) → m < 12 → days_before_month leap m ≤ 335
-before_most leap m h =
-    ⊎_elim (λ lt. omega (arith, month_by_month leap m 11 lt, most leap)) (λ le. let e : m ≡ 11 = omega arith in rw e (most leap)) (cases_lt m 11)

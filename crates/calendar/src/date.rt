@@ -1,9 +1,9 @@
 // A date and its day number, each found from the other.
-ghost use Rattle.std.specs.Prelude.{◌≡◌, ◌+◌, ◌<◌, ◌≤◌, true, IfOk, MatchResult};
+ghost use Rattle.std.specs.Prelude.{◌≡◌, ◌+◌, ◌-◌, ◌<◌, ◌≤◌, true, IfOk, MatchResult};
 ghost use Rattle.refusals.specs.declared.Refusal.TheVariants.{NoSuchDay};
 ghost use Rattle.calendar.specs.Days.{is_leap, year_length, days_before_year, length_of_month, is_day, days_before, day_of, Dated};
 
-use super::months::{days_before, month_at, month_length};
+use super::months::Month;
 use refusals::Refusal;
 
 pub const FIRST_YEAR: u16 = 2000;
@@ -24,7 +24,7 @@ pub struct Date {
     pub day: u8,
 }
 
-// Years are counted from 2000 in the three functions below.
+// Years are counted from 2000 in the functions below, up to `impl Date`.
 fn is_leap(year: u32) -> bool
     ensures { result ≡ is_leap year }
 {
@@ -39,43 +39,73 @@ fn days_before_year(year: u32) -> u32
     365 * year + (year + 3) / 4
 }
 
-// The year that a day lies in, and the days of that year before it.
-fn year_at(number: u32) -> (u32, u16)
-    requires { number ≤ 36524 }
-    ensures year { result.0 < 100 }
-    ensures sum { days_before_year result.0 + result.1 ≡ number }
-    ensures rest { result.1 < year_length (is_leap result.0) }
-{
-    let leap_year = number / DAYS_OF_FOUR_YEARS * 4;
-    let rest = (number % DAYS_OF_FOUR_YEARS) as u16;
-    if rest < 366 {
-        (leap_year, rest)
-    } else {
-        (
-            leap_year + 1 + (rest as u32 - 366) / 365,
-            (rest - 366) % 365,
-        )
+// A day of a year, counted from 0.
+#[derive(Drop)]
+struct DayOfYear {
+    year: u32,
+    day: u16,
+    ghost in_century: { year < 100 },
+    ghost in_year: { day < year_length (is_leap year) },
+}
+
+impl DayOfYear {
+    // The day that has a number.
+    fn numbered(number: u32) -> DayOfYear
+        requires { number ≤ 36524 }
+        ensures { days_before_year result.year + result.day ≡ number }
+    {
+        let leap_year = number / DAYS_OF_FOUR_YEARS * 4;
+        let rest = (number % DAYS_OF_FOUR_YEARS) as u16;
+        if rest < 366 {
+            DayOfYear {
+                year: leap_year,
+                day: rest,
+            }
+        } else {
+            DayOfYear {
+                year: leap_year + 1 + u32::from((rest - 366) / 365),
+                day: (rest - 366) % 365,
+            }
+        }
     }
 }
 
 impl Date {
+    // The year, counted from 2000.
+    fn year_from_first(self) -> u32
+        requires { 2000 ≤ self.year }
+        ensures { result ≡ self.year - 2000 }
+    {
+        u32::from(self.year - FIRST_YEAR)
+    }
+
+    // The month that the date names.
+    fn month_of_year(self) -> Month
+        requires { (2000 ≤ self.year) × ((1 ≤ self.month) × (self.month ≤ 12)) }
+        ensures leap { result.leap ≡ is_leap (self.year - 2000) }
+        ensures index { result.index ≡ self.month - 1 }
+    {
+        Month {
+            leap: is_leap(self.year_from_first()),
+            index: usize::from(self.month - 1),
+        }
+    }
+
     // How many days the date's month has.
     pub(super) fn days_of_month(self) -> u8
         requires { (2000 ≤ self.year) × ((1 ≤ self.month) × (self.month ≤ 12)) }
         ensures { result ≡ length_of_month self }
     {
-        let year = (self.year - FIRST_YEAR) as u32;
-        month_length(is_leap(year), (self.month - 1) as usize)
+        self.month_of_year().length()
     }
 
     // Whether there is such a day.
     pub fn is_day(self) -> bool
         ensures { result ≡ is_day self }
     {
-        if self.year < FIRST_YEAR || self.year > LAST_YEAR || self.month < 1 || self.month > 12 {
-            return false;
-        }
-        1 <= self.day && self.day <= self.days_of_month()
+        (FIRST_YEAR..=LAST_YEAR).contains(&self.year)
+            && (1..=12).contains(&self.month)
+            && (1..=self.days_of_month()).contains(&self.day)
     }
 
     // The days from 1 January 2000 to this one.
@@ -83,10 +113,9 @@ impl Date {
         requires { is_day self ≡ true }
         ensures { result ≡ days_before self }
     {
-        let year = (self.year - FIRST_YEAR) as u32;
-        days_before_year(year)
-            + days_before(is_leap(year), (self.month - 1) as usize) as u32
-            + (self.day - 1) as u32
+        days_before_year(self.year_from_first())
+            + u32::from(self.month_of_year().days_before())
+            + u32::from(self.day - 1)
     }
 
     // The number of this day. It is one that `from_number` leads back from, to this date and no other.
@@ -107,14 +136,13 @@ impl Date {
         if number > LAST_DAY {
             return Err(Refusal::NoSuchDay);
         }
-        let (year, rest) = year_at(number);
-        let leap = is_leap(year);
-        let month = month_at(leap, rest);
-        let day = rest - days_before(leap, month);
+        let at = DayOfYear::numbered(number);
+        let month = Month::of_day(is_leap(at.year), at.day);
+        // Casts to a narrower type, here and above: each is proved to fit, and `try_from` would ask for a branch that never runs.
         Ok(Date {
-            year: year as u16 + FIRST_YEAR,
-            month: month as u8 + 1,
-            day: day as u8 + 1,
+            year: at.year as u16 + FIRST_YEAR,
+            month: month.index as u8 + 1,
+            day: (at.day - month.days_before()) as u8 + 1,
         })
     }
 }

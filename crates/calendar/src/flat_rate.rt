@@ -26,7 +26,7 @@ fn by_rule(litres: u64, date: Date) -> Result<u64, Refusal>
     if !date.is_day() {
         return Err(Refusal::NoSuchDay);
     }
-    Ok(part_of(litres, date.day as u64, date.days_of_month() as u64))
+    Ok(part_of(litres, u64::from(date.day), u64::from(date.days_of_month())))
 }
 
 // The litres of one day of a flat-rate customer, given the quantity of the month that the day lies in. The month's days sum

@@ -4,6 +4,7 @@ use Rattle.calendar.proofs.date.Date.from_number.Goals as goal
 
 pub returns : goal.returns
 returns c =
-    let year = c.year_at-year.ensures in
-    let month = c.month_at-month.ensures in
-    (omega arith, found _ _ _ _ _ _ c.is_leap-leap.ensures c.days_before.ensures.value year.year month.month year.sum month.from month.to)
+    let at = c.numbered-at in
+    let month = c.of_day-month.ensures in
+    let before = rw month.leap at c.days_before.ensures.value in
+    (omega arith, found _ _ _ _ _ _ c.is_leap.ensures before at.result.in_century c.of_day-month.result.in_year at.ensures month.from month.to)

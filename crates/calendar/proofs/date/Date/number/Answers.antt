@@ -3,7 +3,7 @@ use Rattle.calendar.specs.Days.{is_day}
 use Rattle.calendar.proofs.Dates.{at_most, own}
 use Rattle.calendar.proofs.date.Date.number.Goals as goal
 
-pub returns : goal.returns
-returns c =
+pub returns-clause-back : goal.returns-clause-back
+returns-clause-back c =
     let h : is_day c.args.self ≡ true = search rules in
-    rw c.days_before.ensures (record { value = rw h; back = (at_most c.args.self h, own c.args.self h) })
+    rw c.days_before.ensures (at_most c.args.self h, own c.args.self h)
