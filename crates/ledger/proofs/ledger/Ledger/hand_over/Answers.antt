@@ -1,4 +1,4 @@
-use Rattle.std.proofs.Common.{None, rules, arith}
+use Rattle.std.proofs.Common.{rules, arith}
 use Rattle.std.proofs.lemmas.Grind.{common_steps}
 use Rattle.ledger.specs.declared.point.Point.{Point}
 use Rattle.ledger.specs.History.{next}
