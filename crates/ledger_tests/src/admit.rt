@@ -1,13 +1,13 @@
 // Admitting traders and points.
-use crate::seen::{Outcome, Seen, refusal_of};
+use crate::seen::{Outcome, Seen, number_of};
 use crate::station::{GIVEN, ROW, SHEET, two_points, two_traders};
 use ledger::{Ledger, Particulars, Point};
 use std::test::Fail;
 
 fn admission(ledger: &mut Ledger, sheet: &mut [Point], given: Particulars) -> Outcome {
     let before = Seen::of(ledger);
-    let refusal = refusal_of(ledger.admit_point(sheet, given));
-    Outcome::new(refusal, before, ledger)
+    let number = number_of(ledger.admit_point(sheet, given));
+    Outcome::new(number, before, ledger)
 }
 
 #[test]
@@ -17,8 +17,8 @@ fn a_sixty_fifth_trader_has_no_place(rt: HostRuntime) -> Result<(), Fail> {
         assert!(rt; ledger.admit_trader()? == number);
     }
     let before = Seen::of(&ledger);
-    let refusal = refusal_of(ledger.admit_trader());
-    assert!(rt; Outcome::new(refusal, before, &ledger).refused(26));
+    let number = number_of(ledger.admit_trader());
+    assert!(rt; Outcome::new(number, before, &ledger).refused(26));
     Ok(())
 }
 

@@ -2,7 +2,7 @@
 ghost use Rattle.std.specs.Prelude.{◌≡◌, true, IfOk, IfErr, MatchResult};
 ghost use Rattle.ledger.specs.Days.{is_open, is_measured};
 
-use crate::seen::{Outcome, Seen, refusal_of};
+use crate::seen::{Outcome, Seen, number_of};
 use ledger::{Ledger, MeasuredDay, OpenDay, Point, Refused, SharedOut};
 use profiles::{Profile, Weather};
 use shares::ShareRule;
@@ -46,8 +46,8 @@ pub(crate) fn entry(ledger: &mut Ledger, day: &OpenDay, trader: u32, litres: u64
     ensures { ledger.new.book.phase ≡ ledger.old.book.phase }
 {
     let before = Seen::of(ledger);
-    let refusal = refusal_of(ledger.enter(day, trader, litres));
-    Outcome::new(refusal, before, ledger)
+    let number = number_of(ledger.enter(day, trader, litres));
+    Outcome::new(number, before, ledger)
 }
 
 // Takes an inflow. A refusal hands the day back, and leaves the running day.

@@ -5,12 +5,12 @@ use crate::station::two_traders;
 use ledger::Ledger;
 use std::test::Fail;
 
-// An entry on a day on which so much was metered before, and the number of its refusal.
+// An entry on a day on which so much was metered before, and the number of its refusal, if any.
 struct Entry {
     metered: u64,
     trader: u32,
     litres: u64,
-    refusal: Option<u8>,
+    number: Option<u8>,
 }
 
 // Tries an entry.
@@ -63,37 +63,37 @@ static ENTRIES: [Entry; 6] = [
         metered: 0,
         trader: 2,
         litres: 1,
-        refusal: Some(3),
+        number: Some(3),
     },
     Entry {
         metered: 0,
         trader: 1,
         litres: 1_000_000_001,
-        refusal: Some(6),
+        number: Some(6),
     },
     Entry {
         metered: 999_999_999,
         trader: 1,
         litres: 2,
-        refusal: Some(24),
+        number: Some(24),
     },
     Entry {
         metered: 999_999_999,
         trader: 1,
         litres: 1,
-        refusal: None,
+        number: None,
     },
     Entry {
         metered: 0,
         trader: 2,
         litres: 1_000_000_001,
-        refusal: Some(3),
+        number: Some(3),
     },
     Entry {
         metered: 1,
         trader: 1,
         litres: 1_000_000_001,
-        refusal: Some(6),
+        number: Some(6),
     },
 ];
 
@@ -101,7 +101,7 @@ static ENTRIES: [Entry; 6] = [
 fn entries_refused(rt: HostRuntime) -> Result<(), Fail> {
     let mut ledger = two_traders()?;
     for case in &ENTRIES {
-        assert!(rt; tried(&mut ledger, case)?.is(case.refusal));
+        assert!(rt; tried(&mut ledger, case)?.is(case.number));
     }
     Ok(())
 }
@@ -112,19 +112,19 @@ static BY_ANOTHER: [Entry; 3] = [
         metered: 5,
         trader: 0,
         litres: 1,
-        refusal: Some(20),
+        number: Some(20),
     },
     Entry {
         metered: 1_000_000_000,
         trader: 0,
         litres: 1,
-        refusal: Some(20),
+        number: Some(20),
     },
     Entry {
         metered: 5,
         trader: 0,
         litres: 1_000_000_001,
-        refusal: Some(6),
+        number: Some(6),
     },
 ];
 
@@ -136,7 +136,7 @@ fn entries_by_another_ledger_s_day(rt: HostRuntime) -> Result<(), Fail> {
     let ahead = opened(&mut ledger)?;
     end_open(&mut ledger, ahead);
     for case in &BY_ANOTHER {
-        assert!(rt; by_another(&mut ledger, &mut other, case)?.is(case.refusal));
+        assert!(rt; by_another(&mut ledger, &mut other, case)?.is(case.number));
     }
     Ok(())
 }

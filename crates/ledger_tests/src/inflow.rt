@@ -5,12 +5,12 @@ use crate::station::two_traders;
 use ledger::{Ledger, Refused};
 use std::test::Fail;
 
-// An inflow after so much was metered, and the number of its refusal.
+// An inflow after so much was metered, and the number of its refusal, if any.
 struct Inflow {
     metered: u64,
     litres: u64,
     rate: u32,
-    refusal: Option<u8>,
+    number: Option<u8>,
 }
 
 // Takes an inflow.
@@ -58,61 +58,61 @@ static INFLOWS: [Inflow; 10] = [
         metered: 0,
         litres: 1_000_000_001,
         rate: 0,
-        refusal: Some(6),
+        number: Some(6),
     },
     Inflow {
         metered: 0,
         litres: 1_000_000,
         rate: 1_000_001,
-        refusal: Some(6),
+        number: Some(6),
     },
     Inflow {
         metered: 0,
         litres: 1_000_000_000,
         rate: 1_000_000,
-        refusal: None,
+        number: None,
     },
     Inflow {
         metered: 380_000,
         litres: 379_999,
         rate: 0,
-        refusal: Some(25),
+        number: Some(25),
     },
     Inflow {
         metered: 380_000,
         litres: 387_754,
         rate: 20_000,
-        refusal: Some(25),
+        number: Some(25),
     },
     Inflow {
         metered: 380_000,
         litres: 387_755,
         rate: 20_000,
-        refusal: None,
+        number: None,
     },
     Inflow {
         metered: 49,
         litres: 49,
         rate: 20_000,
-        refusal: None,
+        number: None,
     },
     Inflow {
         metered: 49,
         litres: 50,
         rate: 20_000,
-        refusal: None,
+        number: None,
     },
     Inflow {
         metered: 50,
         litres: 50,
         rate: 20_000,
-        refusal: Some(25),
+        number: Some(25),
     },
     Inflow {
         metered: 380_000,
         litres: 1_000,
         rate: 1_000_001,
-        refusal: Some(6),
+        number: Some(6),
     },
 ];
 
@@ -120,7 +120,7 @@ static INFLOWS: [Inflow; 10] = [
 fn inflows_refused(rt: HostRuntime) -> Result<(), Fail> {
     let mut ledger = two_traders()?;
     for case in &INFLOWS {
-        assert!(rt; taken(&mut ledger, case)?.is(case.refusal));
+        assert!(rt; taken(&mut ledger, case)?.is(case.number));
     }
     Ok(())
 }

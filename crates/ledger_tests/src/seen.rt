@@ -33,6 +33,31 @@ impl Seen {
         }
     }
 
+    // The same after so many readings.
+    pub(crate) fn with_readings(self, readings: u32) -> Seen {
+        Seen {
+            counts: Counts {
+                readings,
+                ..self.counts
+            },
+            ..self
+        }
+    }
+
+    // The same after one booking, which moved so much from the distributor to a trader.
+    pub(crate) fn with_booking(self, account: [i64; 2], correction: i64) -> Seen {
+        Seen {
+            counts: Counts {
+                bookings: 1,
+                ..self.counts
+            },
+            account,
+            correction,
+            accounts: i128::from(account[0]) + i128::from(account[1]),
+            ..self
+        }
+    }
+
     // The same but for the number of days opened.
     pub(crate) fn with_opened(self, opened: u32) -> Seen {
         Seen {
@@ -48,37 +73,37 @@ impl Seen {
 // How a call was answered: the number of its refusal, if it was refused, and whether the ledger stayed as it was.
 #[derive(Clone, Copy)]
 pub(crate) struct Outcome {
-    pub(crate) refusal: Option<u8>,
+    pub(crate) number: Option<u8>,
     pub(crate) unchanged: bool,
 }
 
 impl Outcome {
-    pub(crate) fn new(refusal: Option<u8>, before: Seen, ledger: &Ledger) -> Outcome {
+    pub(crate) fn new(number: Option<u8>, before: Seen, ledger: &Ledger) -> Outcome {
         Outcome {
-            refusal,
+            number,
             unchanged: Seen::of(ledger) == before,
         }
     }
 
     pub(crate) fn accepted(self) -> bool {
-        self.refusal.is_none()
+        self.number.is_none()
     }
 
     // As a refusal of that number has to be: the ledger stayed as it was.
     pub(crate) fn refused(self, number: u8) -> bool {
-        self.refusal == Some(number) && self.unchanged
+        self.number == Some(number) && self.unchanged
     }
 
     // Whether the call was refused by this number, or accepted where there is none.
-    pub(crate) fn is(self, refusal: Option<u8>) -> bool {
-        match refusal {
-            None => self.accepted(),
-            Some(number) => self.refused(number),
-        }
+    pub(crate) fn is(self, number: Option<u8>) -> bool {
+        self.number == number && (self.accepted() || self.unchanged)
     }
 }
 
-// The number of an answer's refusal.
-pub(crate) fn refusal_of<T: Drop>(answer: Result<T, Refusal>) -> Option<u8> {
-    answer.err().map(|why| why.number())
+// The number of the refusal, if it is one.
+pub(crate) fn number_of<T: Drop>(answer: Result<T, Refusal>) -> Option<u8> {
+    match answer {
+        Ok(_) => None,
+        Err(why) => Some(why.number()),
+    }
 }

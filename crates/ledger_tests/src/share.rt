@@ -35,7 +35,7 @@ fn even(factor: u32) -> Result<EvenProfile, Fail> {
     }
 }
 
-// The number of the refusal where the station of two points is handed these sheets. A refusal has to leave them.
+// The number of the refusal, if any, where the station of two points is handed these sheets. A refusal has to leave them.
 fn tried<P: Profile, const N: usize, const U: usize, const S: usize>(
     rt: &impl Abort,
     sheet: [Point; N],
@@ -50,7 +50,7 @@ fn tried<P: Profile, const N: usize, const U: usize, const S: usize>(
     let outcome = sharing(&mut ledger, &mut rows, profile, &mut weights, &mut parts)?;
     let kept = outcome.unchanged && rows == sheet && weights == uses && parts == shares;
     assert!(rt; outcome.accepted() || kept);
-    Ok(outcome.refusal)
+    Ok(outcome.number)
 }
 
 // A sheet too short or too long, told before a work sheet.
@@ -184,7 +184,7 @@ fn another_day(rt: &impl Abort, sheet: [Point; 3]) -> Result<Option<u8>, Fail> {
     let mut rows = sheet;
     let mut uses = [7; 3];
     let mut shares = [8; 3];
-    let refusal = match sharing_out(
+    let number = match sharing_out(
         &mut ledger,
         day,
         &mut rows,
@@ -199,9 +199,9 @@ fn another_day(rt: &impl Abort, sheet: [Point; 3]) -> Result<Option<u8>, Fail> {
             Some(why.number())
         }
     };
-    assert!(rt; Outcome::new(refusal, before, &ledger).unchanged && rows == sheet);
+    assert!(rt; Outcome::new(number, before, &ledger).unchanged && rows == sheet);
     assert!(rt; uses == [7; 3] && shares == [8; 3]);
-    Ok(refusal)
+    Ok(number)
 }
 
 // A foreign row is told before a foreign day, and that before an open slip.

@@ -2,9 +2,10 @@
 // ledger's own.
 ghost use Rattle.std.specs.Prelude.{◌≡◌};
 
+use crate::readings::slips::{Call, end, ended, ending, reading};
+use crate::readings::station::{SECOND, two_points};
 use crate::seen::Seen;
-use crate::slips::{Call, end, ended, ending, reading};
-use crate::station::{ROW, SECOND, two_points};
+use crate::station::ROW;
 use ledger::{Ledger, Point, Refused};
 use refusals::Refusal;
 use std::test::Fail;
@@ -13,7 +14,7 @@ use std::test::Fail;
 #[derive(Debug, Drop)]
 struct Changed;
 
-// The number of the refusal where the slip of another ledger's first reading is brought to this one. A refusal has to
+// The number of the refusal where the slip of another ledger's first reading is brought to this one, if any. A refusal has to
 // leave ledger and sheet.
 fn brought(ledger: &mut Ledger, sheet: &mut [Point; 2], call: Call) -> Result<Option<u8>, Fail>
     ensures { ledger.new.book.counts.points ≡ ledger.old.book.counts.points }
@@ -36,7 +37,10 @@ fn brought(ledger: &mut Ledger, sheet: &mut [Point; 2], call: Call) -> Result<Op
 
 // Whether a call was refused by this number.
 fn refused(answer: Result<i64, Refusal>, number: u8) -> bool {
-    answer.err().map(|why| why.number()) == Some(number)
+    match answer {
+        Ok(_) => false,
+        Err(why) => why.number() == number,
+    }
 }
 
 // The first row while its first slip is open.

@@ -1,12 +1,13 @@
 // Bookings, hand-overs and withdrawals that are refused.
+use crate::readings::slips::{Call, end, ended, ending, reading};
+use crate::readings::station::{SECOND, three_points, two_points};
 use crate::seen::Seen;
-use crate::slips::{Call, end, ended, ending, reading};
-use crate::station::{ROW, SECOND, three_points, two_points};
+use crate::station::ROW;
 use ledger::{Point, Refused};
 use std::process::Abort;
 use std::test::Fail;
 
-// The number of the refusal where the slip of the first point's first reading is brought with this sheet. A refusal
+// The number of the refusal where the slip of the first point's first reading is brought with this sheet, if any. A refusal
 // has to leave ledger and sheet.
 fn tried<const N: usize>(
     rt: &impl Abort,
@@ -60,12 +61,12 @@ const NOBODYS: Point = Point { trader: 2, ..OPEN };
 
 const ANOTHER: Point = Point { slip: 2, ..OPEN };
 
-// A call with this first row, and the number of its refusal.
+// A call with this first row, and the number of its refusal, if any.
 #[derive(Clone, Copy)]
 struct Case {
     call: Call,
     row: Point,
-    refusal: Option<u8>,
+    number: Option<u8>,
 }
 
 // Each ground beside one that is told after it, where there is one. A withdrawal asks nothing of the row but its slip.
@@ -73,74 +74,74 @@ static CASES: [Case; 13] = [
     Case {
         call: Call::Book,
         row: Point { slip: 2, ..FOREIGN },
-        refusal: Some(11),
+        number: Some(11),
     },
     Case {
         call: Call::Book,
         row: Point { slip: 2, ..NOBODYS },
-        refusal: Some(11),
+        number: Some(11),
     },
     Case {
         call: Call::Book,
         row: ANOTHER,
-        refusal: Some(21),
+        number: Some(21),
     },
     Case {
         call: Call::Book,
         row: ROW,
-        refusal: Some(21),
+        number: Some(21),
     },
     Case {
         call: Call::Book,
         row: OPEN,
-        refusal: None,
+        number: None,
     },
     Case {
         call: Call::HandOver(1),
         row: Point { slip: 2, ..FOREIGN },
-        refusal: Some(11),
+        number: Some(11),
     },
     Case {
         call: Call::HandOver(1),
         row: Point { slip: 2, ..NOBODYS },
-        refusal: Some(11),
+        number: Some(11),
     },
     Case {
         call: Call::HandOver(0),
         row: ANOTHER,
-        refusal: Some(21),
+        number: Some(21),
     },
     Case {
         call: Call::HandOver(0),
         row: OPEN,
-        refusal: Some(29),
+        number: Some(29),
     },
     Case {
         call: Call::HandOver(1),
         row: OPEN,
-        refusal: None,
+        number: None,
     },
     Case {
         call: Call::Withdraw,
         row: ANOTHER,
-        refusal: Some(21),
+        number: Some(21),
     },
     Case {
         call: Call::Withdraw,
         row: ROW,
-        refusal: Some(21),
+        number: Some(21),
     },
     Case {
         call: Call::Withdraw,
         row: FOREIGN,
-        refusal: None,
+        number: None,
     },
 ];
 
 #[test]
 fn rows_and_slips(rt: HostRuntime) -> Result<(), Fail> {
     for case in &CASES {
-        assert!(rt; tried(&rt, case.call, [case.row, SECOND])? == case.refusal);
+        assert!(rt; tried(&rt, case.call, [case.row, SECOND])? == case.number);
     }
     Ok(())
 }

@@ -1,12 +1,13 @@
 // Reading points: what is refused, and what a withdrawn reading leaves.
+use crate::readings::slips::{Call, end, ended, reading};
+use crate::readings::station::{SECOND, two_points};
 use crate::seen::Seen;
-use crate::slips::{Call, end, ended, reading};
-use crate::station::{ROW, SECOND, two_points};
+use crate::station::ROW;
 use ledger::{Ledger, Point};
 use std::process::Abort;
 use std::test::Fail;
 
-// The number of the refusal where a point is read. A refusal has to leave ledger and sheet.
+// The number of the refusal where a point is read, if any. A refusal has to leave ledger and sheet.
 fn tried<const N: usize>(
     rt: &impl Abort,
     ledger: &mut Ledger,
