@@ -3,6 +3,7 @@ pub mod HandedBack
 pub mod Withdrawals
 pub mod Accepted
 pub mod AcceptedReadings
+pub mod Booking
 pub mod Rows
 pub mod Ranges
 pub mod Traders
