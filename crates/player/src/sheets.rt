@@ -1,0 +1,39 @@
+// The point sheet and the two work sheets of a share-out.
+ghost use Rattle.std.specs.Prelude.{◌≡◌, IfOk, vec_len};
+
+use ledger::Point;
+use std::alloc::{AllocError, Global};
+
+#[derive(Drop)]
+pub struct Sheets {
+    pub(crate) points: Vec<Point>,
+    pub(crate) uses: Vec<u64>,
+    pub(crate) shares: Vec<u64>,
+    ghost uses_fit: { vec_len uses ≡ vec_len points },
+    ghost shares_fit: { vec_len shares ≡ vec_len points },
+}
+
+impl Sheets {
+    // Sheets of so many places, none of them used yet.
+    pub(crate) fn new(heap: Global, places: usize) -> Result<Sheets, AllocError>
+        ensures { IfOk result (λ s. vec_len s.points ≡ places) }
+    {
+        let uses = vec![in heap; 0; places]?;
+        let shares = vec![in heap; 0; places]?;
+        let points = vec![in heap; Point::UNUSED; places]?;
+        Ok(Sheets {
+            points,
+            uses,
+            shares,
+        })
+    }
+
+    // The three sheets, for one share-out.
+    pub(crate) fn lend(&mut self) -> (&mut [Point], &mut [u64], &mut [u64]) {
+        (
+            self.points.as_mut_slice(),
+            self.uses.as_mut_slice(),
+            self.shares.as_mut_slice(),
+        )
+    }
+}
