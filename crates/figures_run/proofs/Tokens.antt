@@ -5,7 +5,7 @@ use Rattle.refusals.specs.declared.Refusal.{Refusal}
 use Rattle.ledger.specs.declared.book.Book.{Book}
 use Rattle.ledger.specs.declared.day.OpenDay.{OpenDay}
 use Rattle.ledger.specs.declared.day.MeasuredDay.{MeasuredDay}
-use Rattle.ledger.specs.declared.day.Refused.{Refused}
+use Rattle.refusals.specs.declared.Refused.{Refused}
 use Rattle.ledger.specs.declared.day.SharedOut.{SharedOut}
 use Rattle.ledger.specs.declared.point.Point.{Point}
 use Rattle.ledger.specs.Grounds.{answered, handed_back, unless}
@@ -23,14 +23,14 @@ accepted P (Some w) new old x y h e = ok_err y w (sym e)
 
 passed : {A T : Type 0} (P : Book → A → Type 0) (o : Option Refusal) (new old : Book) (t : T) (x y : A) → P new x → handed_back o t x ≡ Ok y → P (unless o new old) y
 passed P None new old t x y h e = let q : x ≡ y = cc in subst (P new) q h
-passed P (Some w) new old t x y h e = ok_err y (record { why = w; token = t }) (sym e)
+passed P (Some w) new old t x y h e = ok_err y (record { why = w; given = t }) (sym e)
 
 -- what held of the book and the token before a call holds after it where it is refused
-handed : {A T : Type 0} (P : Book → T → Type 0) (o : Option Refusal) (new old : Book) (t : T) (x : A) (r : Refused T) → P old t → handed_back o t x ≡ Err r → P (unless o new old) r.token
+handed : {A T : Type 0} (P : Book → T → Type 0) (o : Option Refusal) (new old : Book) (t : T) (x : A) (r : Refused T) → P old t → handed_back o t x ≡ Err r → P (unless o new old) r.given
 handed P None new old t x r h e = ok_err x r e
 handed {A} {T} P (Some w) new old t x r h e =
-    let q : ◌≡◌ {A = Refused T} (record { why = w; token = t }) r = cc in
-    subst (λ (s : Refused T). P old s.token) q h
+    let q : ◌≡◌ {A = Refused T} (record { why = w; given = t }) r = cc in
+    subst (λ (s : Refused T). P old s.given) q h
 
 abbrev pub Open : Book → OpenDay → Type 0
 Open l day = is_open l.phase day.number ≡ true
@@ -50,10 +50,10 @@ pub measured : (l l' : Book) (day : OpenDay) (inflow rate : ℕ) (res : Result M
 measured l l' day inflow rate res m a b e =
     subst (λ (k : Book). Measured k m) (sym b) (passed Measured (inflow_fault l day inflow rate) _ l day _ m (eq-eqb _ _ refl) (sym a ∙ e))
 
-pub inflow_refused : (l l' : Book) (day : OpenDay) (inflow rate : ℕ) (res : Result MeasuredDay (Refused OpenDay)) (r : Refused OpenDay) → Open l day → res ≡ inflow_answer l day inflow rate → l' ≡ inflow_book l day inflow rate → res ≡ Err r → Open l' r.token
+pub inflow_refused : (l l' : Book) (day : OpenDay) (inflow rate : ℕ) (res : Result MeasuredDay (Refused OpenDay)) (r : Refused OpenDay) → Open l day → res ≡ inflow_answer l day inflow rate → l' ≡ inflow_book l day inflow rate → res ≡ Err r → Open l' r.given
 inflow_refused l l' day inflow rate res r h a b e =
-    subst (λ (k : Book). Open k r.token) (sym b) (handed Open (inflow_fault l day inflow rate) _ l day _ r h (sym a ∙ e))
+    subst (λ (k : Book). Open k r.given) (sym b) (handed Open (inflow_fault l day inflow rate) _ l day _ r h (sym a ∙ e))
 
-pub share_refused : (l l' : Book) (day : MeasuredDay) (s : List Point) (tells : Tells) (rule : Rule) (segments uses shares : ℕ) (res : Result SharedOut (Refused MeasuredDay)) (r : Refused MeasuredDay) → Measured l day → res ≡ share_answer l day s tells segments uses shares → l' ≡ share_book l day s tells rule segments uses shares → res ≡ Err r → Measured l' r.token
+pub share_refused : (l l' : Book) (day : MeasuredDay) (s : List Point) (tells : Tells) (rule : Rule) (segments uses shares : ℕ) (res : Result SharedOut (Refused MeasuredDay)) (r : Refused MeasuredDay) → Measured l day → res ≡ share_answer l day s tells segments uses shares → l' ≡ share_book l day s tells rule segments uses shares → res ≡ Err r → Measured l' r.given
 share_refused l l' day s tells rule segments uses shares res r h a b e =
-    subst (λ (k : Book). Measured k r.token) (sym b) (handed Measured (share_fault l day s tells segments uses shares) _ l day _ r h (sym a ∙ e))
+    subst (λ (k : Book). Measured k r.given) (sym b) (handed Measured (share_fault l day s tells segments uses shares) _ l day _ r h (sym a ∙ e))

@@ -5,7 +5,7 @@ ghost use Rattle.ledger.specs.Days.{is_open, is_measured};
 use crate::page::Page;
 use crate::refused::refused;
 use ledger::{Ledger, MeasuredDay, OpenDay, Particulars, Point, Refused, SharedOut};
-use profiles::{EvenProfile, Profile};
+use profiles::{EvenProfile, Profile, Weather};
 use refusals::Refusal;
 use shares::ShareRule;
 use std::alloc::Global;
@@ -13,6 +13,11 @@ use std::fmt;
 
 // 1 October 2009.
 const FIRST_DAY: u32 = 3_561;
+
+const WEATHER: Weather = Weather {
+    temperature: 100,
+    season: 0,
+};
 
 const INFLOW: u64 = 1_000_000;
 
@@ -64,7 +69,7 @@ fn admit(ledger: &mut Ledger, points: &mut [Point]) -> Result<u32, Refusal> {
 fn measure(ledger: &mut Ledger, trader: u32) -> Result<MeasuredDay, Refusal>
     ensures { IfOk result (λ day. is_measured ledger.new.book.phase day.number ≡ true) }
 {
-    match ledger.open(100, 0) {
+    match ledger.open(WEATHER) {
         Ok(day) => take_figures(ledger, day, trader),
         Err(why) => Err(why),
     }
@@ -85,8 +90,8 @@ fn take_figures(ledger: &mut Ledger, day: OpenDay, trader: u32) -> Result<Measur
     match ledger.take_inflow(day, INFLOW, LOSS_RATE) {
         Ok(measured) => Ok(measured),
         Err(back) => {
-            let Refused { why, token } = back;
-            end_open(ledger, token);
+            let Refused { why, given } = back;
+            end_open(ledger, given);
             Err(why)
         }
     }
@@ -107,8 +112,8 @@ fn share_day<P: Profile, R: ShareRule>(
     match ledger.share_out(day, points, profile, rule, uses, shares) {
         Ok(told) => Ok(told),
         Err(back) => {
-            let Refused { why, token } = back;
-            end_measured(ledger, token);
+            let Refused { why, given } = back;
+            end_measured(ledger, given);
             Err(why)
         }
     }

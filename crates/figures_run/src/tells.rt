@@ -1,7 +1,7 @@
 // What the table profile, and a season layer over it, tell.
 use crate::page::Page;
 use crate::refused::refused;
-use profiles::{Profile, SeasonLayer, TableProfile};
+use profiles::{Profile, SeasonLayer, TableProfile, Weather};
 use std::alloc::{AllocError, Global};
 use std::fmt;
 
@@ -35,7 +35,7 @@ fn table_line(page: &mut Page, table: &TableProfile, segment: u32, t: i16) -> fm
     page.begin("table")?;
     page.number(segment)?;
     page.number(t)?;
-    page.number(table.tell(segment, t, 0).multiplier)?;
+    page.number(table.tell(segment, Weather { temperature: t, season: 0 }).multiplier)?;
     page.end()
 }
 
@@ -70,7 +70,7 @@ fn layer_line<P: Profile>(
     season: u8,
     t: i16,
 ) -> fmt::Result {
-    let told = layer.tell(segment, t, season);
+    let told = layer.tell(segment, Weather { temperature: t, season });
     page.begin("layer")?;
     page.number(segment)?;
     page.number(season)?;

@@ -2,15 +2,15 @@
 use Rattle.std.proofs.Common.{◌≡◌, IfErr, IfOk, None, Some, Err, Option, Result, sym, refl, ap, ◌∙◌, subst, MatchResult}
 use Rattle.refusals.specs.declared.Refusal.{Refusal}
 use Rattle.ledger.specs.declared.book.Book.{Book}
-use Rattle.ledger.specs.declared.day.Refused.{Refused}
+use Rattle.refusals.specs.declared.Refused.{Refused}
 use Rattle.ledger.specs.Grounds.{handed_back, unless}
 use Rattle.ledger.proofs.Grounds.{by_option}
 
 -- it is the token that was handed in
-pub same_token : {A T : Type 0} (f : Option Refusal) (t : T) (x : A) (r : Result A (Refused T)) → r ≡ handed_back f t x → IfErr r (λ e. e.token ≡ t)
+pub same_token : {A T : Type 0} (f : Option Refusal) (t : T) (x : A) (r : Result A (Refused T)) → r ≡ handed_back f t x → IfErr r (λ e. e.given ≡ t)
 same_token f t x r er =
-    subst (λ z. IfErr z (λ e. e.token ≡ t)) (sym er)
-    (by_option (λ o. IfErr (handed_back o t x) (λ e. e.token ≡ t)) f (λ _. tt) (λ _. refl))
+    subst (λ z. IfErr z (λ e. e.given ≡ t)) (sym er)
+    (by_option (λ o. IfErr (handed_back o t x) (λ e. e.given ≡ t)) f (λ _. tt) (λ _. refl))
 
 -- a call without a ground of refusal is not refused
 pub never : {A T : Type 0} (f : Option Refusal) (t : T) (x : A) (e : Refused T) → f ≡ None → Err e ≡ handed_back f t x → ⊥
@@ -18,7 +18,7 @@ never f t x e none is = subst (λ z. IfOk z (λ _. ⊥)) (is ∙ ap (λ (o : Opt
 
 -- the token and the running day after a refusal
 abbrev pub Back : {T : Type 0} → T → Book → Book → Refused T → Type 0
-Back day old new e = (e.token ≡ day) × (new.phase ≡ old.phase)
+Back day old new e = (e.given ≡ day) × (new.phase ≡ old.phase)
 
 back : {A T : Type 0} (P : Book → A → Type 0) (f : Option Refusal) (day : T) (x : A) (new old : Book) → P new x → MatchResult (handed_back f day x) (P (unless f new old)) (Back day old (unless f new old))
 back P None day x new old h = h

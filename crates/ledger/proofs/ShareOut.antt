@@ -14,7 +14,7 @@ use Rattle.ledger.specs.declared.book.Trader.{Trader}
 use Rattle.ledger.specs.declared.day.MeasuredDay.{MeasuredDay}
 use Rattle.ledger.specs.declared.day.Phase.{Phase}
 use Rattle.ledger.specs.declared.day.Phase.TheVariants.{Idle, Open, Measured}
-use Rattle.ledger.specs.declared.day.Refused.{Refused}
+use Rattle.refusals.specs.declared.Refused.{Refused}
 use Rattle.ledger.specs.declared.day.SharedOut.{SharedOut}
 use Rattle.ledger.specs.declared.point.Point.{Point}
 use Rattle.ledger.specs.Accounts.{Sound, credited_to, credited, settled, with_traders, day_holds, pending}
@@ -187,7 +187,7 @@ module _ (l : Book) (day : MeasuredDay) (s : List Point) (tells-of : Tells) (seg
     pub given : ss' ≡ share_shares l day s tells-of rule segments (length us) ss
 
   -- the quantity was above nought and nobody had any weight
-  pub weightless : 0 < quantity → total ≡ 0 → Answered (Err (record { why = NoWeight; token = day })) l s ss
+  pub weightless : 0 < quantity → total ≡ 0 → Answered (Err (record { why = NoWeight; given = day })) l s ss
   weightless some z =
       let n = l.counts.points in
       let room = (passed l day s segments (length us) (length ss) none).room in

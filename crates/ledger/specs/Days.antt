@@ -9,8 +9,8 @@ use Rattle.ledger.specs.declared.day.OpenDay.{OpenDay}
 use Rattle.ledger.specs.declared.day.MeasuredDay.{MeasuredDay}
 use Rattle.ledger.specs.declared.day.Phase.{Phase}
 use Rattle.ledger.specs.declared.day.Phase.TheVariants.{Idle, Open, Measured}
-use Rattle.ledger.specs.declared.day.Refused.{Refused}
-use Rattle.ledger.specs.declared.day.Weather.{Weather as Sky}
+use Rattle.refusals.specs.declared.Refused.{Refused}
+use Rattle.profiles.specs.declared.weather.Weather.{Weather as Sky}
 use Rattle.ledger.specs.declared.point.Particulars.{Particulars as Given}
 use Rattle.ledger.specs.declared.point.Point.{Point}
 use Rattle.ledger.specs.Accounts.{account_at, metered_at, metered_sum, entered, unmetered, with_traders, with_counts, with_phase}

@@ -1,7 +1,7 @@
 -- How a call answers: the first ground met is returned, and a refused call changes nothing.
 use Rattle.std.specs.Prelude.{Bool, cond, List, [], ◌∷◌, Some, None, Ok, Err, Option, Result}
 use Rattle.refusals.specs.declared.Refusal.{Refusal}
-use Rattle.ledger.specs.declared.day.Refused.{Refused}
+use Rattle.refusals.specs.declared.Refused.{Refused}
 
 -- the first ground that is met, in the order of the list
 abbrev pub first_ground : List (Bool × Refusal) → Option Refusal
@@ -15,7 +15,7 @@ answered (Some why) x = Err why
 
 abbrev pub handed_back : {A T : Type 0} → Option Refusal → T → A → Result A (Refused T)
 handed_back None token x = Ok x
-handed_back (Some why) token x = Err (record { why = why; token = token })
+handed_back (Some why) token x = Err (record { why = why; given = token })
 
 -- what there is after a call: the new where no ground is met, and else the old
 abbrev pub unless : {A : Type 0} → Option Refusal → A → A → A

@@ -1,7 +1,7 @@
 // The running gas day: its tokens, its weather and its phase.
 ghost use Rattle.std.specs.Prelude.{◌≡◌};
 
-use refusals::Refusal;
+use profiles::Weather;
 
 // The right to enter into the running day and to take its inflow. It is only a number, cannot be copied, and has to be ended:
 // a day that is let go does not compile.
@@ -23,25 +23,12 @@ impl OpenDay {
     }
 }
 
-// A refusal hands the token back.
-pub struct Refused<T> {
-    pub why: Refusal,
-    pub token: T,
-}
-
 // What a share-out tells: the quantity shared, the sum of the profile consumptions, and the loss.
 #[derive(Clone, Copy, PartialEq, Debug)]
 pub struct SharedOut {
     pub quantity: u64,
     pub total: u64,
     pub loss: u64,
-}
-
-// What a day's opening took.
-#[derive(Clone, Copy)]
-pub(crate) struct Weather {
-    pub(crate) temperature: i16,
-    pub(crate) season: u8,
 }
 
 // How far the running day has come. A measured day's quantity, loss and metered litres are its inflow.

@@ -11,11 +11,11 @@ ghost use Rattle.ledger.specs.History.{Leads, Goes, Means, TraderAdmitted, Point
 ghost use Rattle.ledger.specs.declared.point.Point.{Point as Row};
 
 use crate::book::{Book, Counts};
-use crate::day::{MeasuredDay, OpenDay, Refused, SharedOut};
+use crate::day::{MeasuredDay, OpenDay, SharedOut};
 use crate::point::{Particulars, Point};
 use crate::slip::Slip;
-use profiles::Profile;
-use refusals::Refusal;
+use profiles::{Profile, Weather};
+use refusals::{Refusal, Refused};
 use shares::ShareRule;
 
 // A ledger. Its ghost fields are what always holds of its book.
@@ -68,13 +68,13 @@ impl Ledger {
         self.book.admit_point(sheet, given)
     }
 
-    // Opens a day at a temperature in tenths of a degree and a season.
-    pub fn open(&mut self, temperature: i16, season: u8) -> Result<OpenDay, Refusal>
-        ensures answer { result ≡ open_answer self.old.book temperature season }
-        ensures state { self.new.book ≡ open_book self.old.book temperature season }
-        ensures run { (s : List Row) → Goes (Opened temperature season result) self.old.book s self.new.book s }
+    // Opens a day, whose weather is the temperature in tenths of a degree and the season.
+    pub fn open(&mut self, weather: Weather) -> Result<OpenDay, Refusal>
+        ensures answer { result ≡ open_answer self.old.book weather.temperature weather.season }
+        ensures state { self.new.book ≡ open_book self.old.book weather.temperature weather.season }
+        ensures run { (s : List Row) → Goes (Opened weather.temperature weather.season result) self.old.book s self.new.book s }
     {
-        self.book.open(temperature, season)
+        self.book.open(weather)
     }
 
     // Adds litres to a trader's metered sum of today.
@@ -111,12 +111,12 @@ impl Ledger {
         uses: &mut [u64],
         shares: &mut [u64],
     ) -> Result<SharedOut, Refused<MeasuredDay>>
-        ensures answer { result ≡ share_answer self.old.book day sheet.old (P.Profile.tells profile.now) P.Profile.segments (length uses.old) (length shares.old) }
-        ensures state { self.new.book ≡ share_book self.old.book day sheet.old (P.Profile.tells profile.now) R.ShareRule.shares P.Profile.segments (length uses.old) (length shares.old) }
-        ensures rows { sheet.new ≡ share_sheet self.old.book day sheet.old (P.Profile.tells profile.now) R.ShareRule.shares P.Profile.segments (length uses.old) (length shares.old) }
-        ensures weighed { uses.new ≡ share_uses self.old.book day sheet.old (P.Profile.tells profile.now) P.Profile.segments uses.old (length shares.old) }
-        ensures given { shares.new ≡ share_shares self.old.book day sheet.old (P.Profile.tells profile.now) R.ShareRule.shares P.Profile.segments (length uses.old) shares.old }
-        ensures run { Goes (Shared day (record { tells = P.Profile.tells profile.now; segments = P.Profile.segments; rule = R.ShareRule.shares; uses = uses.old; shares = shares.old }) result uses.new shares.new) self.old.book sheet.old self.new.book sheet.new }
+        ensures answer { result ≡ share_answer self.old.book day sheet.old (P.Profile.tells profile.now) P.Profile.SEGMENTS (length uses.old) (length shares.old) }
+        ensures state { self.new.book ≡ share_book self.old.book day sheet.old (P.Profile.tells profile.now) R.ShareRule.shares P.Profile.SEGMENTS (length uses.old) (length shares.old) }
+        ensures rows { sheet.new ≡ share_sheet self.old.book day sheet.old (P.Profile.tells profile.now) R.ShareRule.shares P.Profile.SEGMENTS (length uses.old) (length shares.old) }
+        ensures weighed { uses.new ≡ share_uses self.old.book day sheet.old (P.Profile.tells profile.now) P.Profile.SEGMENTS uses.old (length shares.old) }
+        ensures given { shares.new ≡ share_shares self.old.book day sheet.old (P.Profile.tells profile.now) R.ShareRule.shares P.Profile.SEGMENTS (length uses.old) shares.old }
+        ensures run { Goes (Shared day (record { tells = P.Profile.tells profile.now; segments = P.Profile.SEGMENTS; rule = R.ShareRule.shares; uses = uses.old; shares = shares.old }) result uses.new shares.new) self.old.book sheet.old self.new.book sheet.new }
     {
         self.book.share_out(day, sheet, profile, rule, uses, shares)
     }

@@ -10,7 +10,8 @@ mod point;
 mod slip;
 
 pub use book::Counts;
-pub use day::{MeasuredDay, OpenDay, Refused, SharedOut};
+pub use day::{MeasuredDay, OpenDay, SharedOut};
 pub use ledger::Ledger;
 pub use point::{Particulars, Point};
+pub use refusals::Refused;
 pub use slip::Slip;

@@ -11,8 +11,8 @@ fn open_of_another(ledger: &mut Ledger, other: &mut Ledger) -> Result<Outcome, F
     let before = Seen::of(ledger);
     match ending_open(ledger, day) {
         Ok(()) => Ok(Outcome::new(0, before, ledger)),
-        Err(Refused { why, token }) => {
-            end_open(other, token);
+        Err(Refused { why, given }) => {
+            end_open(other, given);
             Ok(Outcome::new(why.number(), before, ledger))
         }
     }
@@ -24,8 +24,8 @@ fn measured_of_another(ledger: &mut Ledger, other: &mut Ledger) -> Result<Outcom
     let before = Seen::of(ledger);
     match ending_measured(ledger, day) {
         Ok(()) => Ok(Outcome::new(0, before, ledger)),
-        Err(Refused { why, token }) => {
-            end_measured(other, token);
+        Err(Refused { why, given }) => {
+            end_measured(other, given);
             Ok(Outcome::new(why.number(), before, ledger))
         }
     }

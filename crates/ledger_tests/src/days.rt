@@ -4,7 +4,7 @@ ghost use Rattle.ledger.specs.Days.{is_open, is_measured};
 
 use crate::seen::{Outcome, Seen, number_of};
 use ledger::{Ledger, MeasuredDay, OpenDay, Point, Refused, SharedOut};
-use profiles::Profile;
+use profiles::{Profile, Weather};
 use shares::ShareRule;
 use std::test::Fail;
 
@@ -32,7 +32,10 @@ pub(crate) fn end_measured(ledger: &mut Ledger, day: MeasuredDay)
 pub(crate) fn opened(ledger: &mut Ledger) -> Result<OpenDay, Fail>
     ensures { IfOk result (λ d. is_open ledger.new.book.phase d.number ≡ true) }
 {
-    match ledger.open(105, 1) {
+    match ledger.open(Weather {
+        temperature: 105,
+        season: 1,
+    }) {
         Ok(day) => Ok(day),
         Err(why) => Err(Fail::new(why.number())),
     }
@@ -54,7 +57,7 @@ pub(crate) fn taking(
     inflow: u64,
     rate: u32,
 ) -> Result<MeasuredDay, Refused<OpenDay>>
-    ensures { MatchResult result (λ d. is_measured ledger.new.book.phase d.number ≡ true) (λ e. (e.token ≡ day) × (ledger.new.book.phase ≡ ledger.old.book.phase)) }
+    ensures { MatchResult result (λ d. is_measured ledger.new.book.phase d.number ≡ true) (λ e. (e.given ≡ day) × (ledger.new.book.phase ≡ ledger.old.book.phase)) }
 {
     ledger.take_inflow(day, inflow, rate)
 }
@@ -69,14 +72,14 @@ pub(crate) fn sharing_out<P: Profile, R: ShareRule>(
     uses: &mut [u64],
     shares: &mut [u64],
 ) -> Result<SharedOut, Refused<MeasuredDay>>
-    ensures { IfErr result (λ e. (e.token ≡ day) × (ledger.new.book.phase ≡ ledger.old.book.phase)) }
+    ensures { IfErr result (λ e. (e.given ≡ day) × (ledger.new.book.phase ≡ ledger.old.book.phase)) }
 {
     ledger.share_out(day, sheet, profile, rule, uses, shares)
 }
 
 // Abandons an open day. A refusal hands it back.
 pub(crate) fn ending_open(ledger: &mut Ledger, day: OpenDay) -> Result<(), Refused<OpenDay>>
-    ensures { IfErr result (λ e. (e.token ≡ day) × (ledger.new.book.phase ≡ ledger.old.book.phase)) }
+    ensures { IfErr result (λ e. (e.given ≡ day) × (ledger.new.book.phase ≡ ledger.old.book.phase)) }
 {
     ledger.abandon_open(day)
 }
@@ -86,7 +89,7 @@ pub(crate) fn ending_measured(
     ledger: &mut Ledger,
     day: MeasuredDay,
 ) -> Result<(), Refused<MeasuredDay>>
-    ensures { IfErr result (λ e. (e.token ≡ day) × (ledger.new.book.phase ≡ ledger.old.book.phase)) }
+    ensures { IfErr result (λ e. (e.given ≡ day) × (ledger.new.book.phase ≡ ledger.old.book.phase)) }
 {
     ledger.abandon_measured(day)
 }
@@ -105,8 +108,8 @@ pub(crate) fn measured(
     let _ = entry(ledger, &day, 1, metered[1]);
     match taking(ledger, day, inflow, rate) {
         Ok(measured) => Ok(measured),
-        Err(Refused { why, token }) => {
-            end_open(ledger, token);
+        Err(Refused { why, given }) => {
+            end_open(ledger, given);
             Err(Fail::new(why.number()))
         }
     }

@@ -23,9 +23,9 @@ fn taken(ledger: &mut Ledger, case: &Inflow) -> Result<Outcome, Fail> {
             end_measured(ledger, measured);
             Ok(Outcome::new(0, before, ledger))
         }
-        Err(Refused { why, token }) => {
+        Err(Refused { why, given }) => {
             let outcome = Outcome::new(why.number(), before, ledger);
-            end_open(ledger, token);
+            end_open(ledger, given);
             Ok(outcome)
         }
     }
@@ -45,8 +45,8 @@ fn by_another(
             end_measured(ledger, measured);
             Ok(Outcome::new(0, before, ledger))
         }
-        Err(Refused { why, token }) => {
-            end_open(other, token);
+        Err(Refused { why, given }) => {
+            end_open(other, given);
             Ok(Outcome::new(why.number(), before, ledger))
         }
     }

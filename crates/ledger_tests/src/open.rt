@@ -6,14 +6,17 @@ use crate::days::{end_measured, end_open, measured, opened, sharing_out};
 use crate::seen::{Outcome, Seen};
 use crate::station::two_traders;
 use ledger::{Ledger, OpenDay, Point, Refused};
-use profiles::EvenProfile;
+use profiles::{EvenProfile, Weather};
 use shares::Running;
 use std::test::Fail;
 
 // Tries to open a day, and ends the day where there is one.
 fn opening(ledger: &mut Ledger, temperature: i16, season: u8) -> Outcome {
     let before = Seen::of(ledger);
-    match ledger.open(temperature, season) {
+    match ledger.open(Weather {
+        temperature,
+        season,
+    }) {
         Ok(day) => {
             end_open(ledger, day);
             Outcome::new(0, before, ledger)
@@ -28,7 +31,10 @@ fn opening_beside(ledger: &mut Ledger, day: &OpenDay, temperature: i16) -> Outco
     ensures { is_open ledger.new.book.phase day.now.number ≡ true }
 {
     let before = Seen::of(ledger);
-    match ledger.open(temperature, 1) {
+    match ledger.open(Weather {
+        temperature,
+        season: 1,
+    }) {
         Ok(_) => unreachable(),
         Err(why) => Outcome::new(why.number(), before, ledger),
     }
@@ -85,8 +91,8 @@ fn empty_day(ledger: &mut Ledger, profile: &EvenProfile) -> Result<(), Fail> {
         &mut [0; 1],
     ) {
         Ok(_) => Ok(()),
-        Err(Refused { why, token }) => {
-            end_measured(ledger, token);
+        Err(Refused { why, given }) => {
+            end_measured(ledger, given);
             Err(Fail::new(why.number()))
         }
     }

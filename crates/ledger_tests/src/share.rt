@@ -20,9 +20,9 @@ fn sharing<P: Profile>(
     let before = Seen::of(ledger);
     match sharing_out(ledger, day, sheet, profile, &Running, uses, shares) {
         Ok(_) => Ok(Outcome::new(0, before, ledger)),
-        Err(Refused { why, token }) => {
+        Err(Refused { why, given }) => {
             let outcome = Outcome::new(why.number(), before, ledger);
-            end_measured(ledger, token);
+            end_measured(ledger, given);
             Ok(outcome)
         }
     }
@@ -194,8 +194,8 @@ fn another_day(rt: &impl Abort, sheet: [Point; 3]) -> Result<u8, Fail> {
         &mut shares,
     ) {
         Ok(_) => 0,
-        Err(Refused { why, token }) => {
-            end_measured(&mut other, token);
+        Err(Refused { why, given }) => {
+            end_measured(&mut other, given);
             why.number()
         }
     };

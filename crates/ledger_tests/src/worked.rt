@@ -42,8 +42,8 @@ fn share<R: ShareRule>(
         &mut work.shares,
     ) {
         Ok(told) => Ok(told),
-        Err(Refused { why, token }) => {
-            end_measured(ledger, token);
+        Err(Refused { why, given }) => {
+            end_measured(ledger, given);
             Err(Fail::new(why.number()))
         }
     }

@@ -6,7 +6,7 @@ use Rattle.ledger.specs.declared.book.Book.{Book}
 use Rattle.ledger.specs.declared.day.MeasuredDay.{MeasuredDay}
 use Rattle.ledger.specs.declared.day.OpenDay.{OpenDay}
 use Rattle.ledger.specs.declared.day.Phase.{Phase}
-use Rattle.ledger.specs.declared.day.Refused.{Refused}
+use Rattle.refusals.specs.declared.Refused.{Refused}
 use Rattle.ledger.specs.declared.day.SharedOut.{SharedOut}
 use Rattle.ledger.specs.Accounts.{metered_at}
 use Rattle.ledger.specs.Days.{is_idle, is_open, is_measured, enter_fault, enter_book, abandon_open_book, abandon_measured_book}

@@ -1,7 +1,7 @@
 // What a journal has set up, and the playing of its calls.
 ghost use Rattle.std.specs.Prelude.{◌≡◌, ◌<◌, false, IfOk, IfErr, vec_len};
 ghost use Rattle.ledger.specs.Accounts.{new_book};
-ghost use Rattle.ledger.specs.Days.{admit_book, point_book, open_book, inflow_book};
+ghost use Rattle.ledger.specs.Days.{admit_book, point_book, open_book, enter_book, inflow_book};
 ghost use Rattle.player.specs.Playing.{Plays, of_day, of_slip};
 ghost use Rattle.player.specs.Running.{open_day, abandoned};
 
@@ -15,6 +15,7 @@ use crate::trouble::Trouble;
 use journal::call::Call;
 use journal::kind::{Kind, Rule};
 use ledger::Particulars;
+use profiles::Weather;
 use refusals::Refusal;
 use shares::{LargestRemainder, Running, ShareRule};
 use std::alloc::{AllocError, Global};
@@ -84,7 +85,13 @@ impl Player {
             Call::Open {
                 temperature,
                 season,
-            } => self.open(temperature, season, report),
+            } => self.open(
+                Weather {
+                    temperature,
+                    season,
+                },
+                report,
+            ),
             Call::Inflow { litres, rate } => self.take_inflow(litres, rate, report),
             Call::Share { profile, rule } => self.share(profile, rule, report),
             Call::Abandon => self.abandon(report),
@@ -234,16 +241,11 @@ impl Player {
         })?)
     }
 
-    fn open(
-        &mut self,
-        temperature: i16,
-        season: u8,
-        report: &mut Report,
-    ) -> Result<(), Trouble>
-        ensures { self.new.station.ledger.book ≡ open_book self.old.station.ledger.book temperature season }
+    fn open(&mut self, weather: Weather, report: &mut Report) -> Result<(), Trouble>
+        ensures { self.new.station.ledger.book ≡ open_book self.old.station.ledger.book weather.temperature weather.season }
     {
         let day = self.station.ledger().next_day();
-        let told = self.station.open(temperature, season);
+        let told = self.station.open(weather);
         Ok(report.tell(Kind::Open, told, |report, opening| {
             report.field("opening", u64::from(opening))?;
             report.field("day", u64::from(day))
@@ -288,7 +290,8 @@ impl Player {
         })?;
         if told.is_ok() {
             self.inflow = self.inflow.saturating_add(self.measured);
-            let both = self.sheets.uses.iter().zip(self.sheets.shares.iter());
+            let sheets = &self.sheets;
+            let both = sheets.uses.iter().zip(sheets.shares.iter());
             for (point, (consumption, share)) in (0u64..).zip(both).take(points) {
                 report.point(point, *consumption, *share)?;
             }
@@ -353,8 +356,10 @@ impl Player {
     fn quantity(&mut self, trader: u32, report: &mut Report) -> Result<(), Trouble>
         ensures { self.new.station.ledger.book ≡ self.old.station.ledger.book }
     {
-        let sheet = self.sheets.points.as_slice();
-        let told = self.station.ledger().open_quantity(sheet, trader);
+        let (station, sheets) = (&self.station, &self.sheets);
+        let told = station
+            .ledger()
+            .open_quantity(sheets.points.as_slice(), trader);
         Ok(report.tell(Kind::Quantity, told, |report, litres| {
             report.field("trader", u64::from(trader))?;
             report.field("litres", litres)

@@ -27,13 +27,4 @@ impl Sheets {
             shares,
         })
     }
-
-    // The three sheets, for one share-out.
-    pub(crate) fn lend(&mut self) -> (&mut [Point], &mut [u64], &mut [u64]) {
-        (
-            self.points.as_mut_slice(),
-            self.uses.as_mut_slice(),
-            self.shares.as_mut_slice(),
-        )
-    }
 }

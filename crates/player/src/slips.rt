@@ -2,7 +2,7 @@
 ghost use Rattle.std.specs.Prelude.{◌≡◌, ◌<◌, All, Err, IfErr, IfSome, vec_len, vec_capacity, OnSome};
 ghost use Rattle.std.specs.List.Sorted.{IsSearchInRange};
 ghost use Rattle.ledger.specs.declared.slip.Slip.{Slip};
-ghost use Rattle.ledger.specs.declared.day.Refused.{Refused};
+ghost use Rattle.refusals.specs.declared.Refused.{Refused};
 ghost use Rattle.player.specs.Slips.{Made};
 
 use crate::station::Station;
@@ -89,13 +89,13 @@ impl Slips {
         call: F,
     ) -> Result<T, Refusal>
         requires called { F.IsAlwaysCallable call }
-        requires back { (s : Slip) (e : Refused Slip) → F.post call s (Err e) → e.token ≡ s }
+        requires back { (s : Slip) (e : Refused Slip) → F.post call s (Err e) → e.given ≡ s }
     {
         let slip = self.take(point).ok_or(none)?;
         match call(slip) {
             Ok(told) => Ok(told),
-            Err(Refused { why, token }) => {
-                self.put(token);
+            Err(Refused { why, given }) => {
+                self.put(given);
                 Err(why)
             }
         }
@@ -170,8 +170,8 @@ impl Slips {
         while let Some(slip) = open.pop() {
             match ledger.withdraw(sheet, slip) {
                 Ok(()) => {}
-                Err(Refused { why: _, token }) => {
-                    open.push_reserved(token);
+                Err(Refused { why: _, given }) => {
+                    open.push_reserved(given);
                     return Err(Slips { open });
                 }
             }

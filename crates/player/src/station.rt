@@ -8,7 +8,7 @@ ghost use Rattle.ledger.specs.Sharing.{share_answer, share_book, share_sheet, sh
 
 use crate::sheets::Sheets;
 use ledger::{Ledger, MeasuredDay, OpenDay, Particulars, Point, Refused, SharedOut, Slip};
-use profiles::{Profile, in_range};
+use profiles::{Profile, Weather};
 use refusals::Refusal;
 use shares::ShareRule;
 use std::mem::replace;
@@ -109,18 +109,18 @@ impl Station {
     }
 
     // Opens a day: its number by openings.
-    pub(crate) fn open(&mut self, temperature: i16, season: u8) -> Result<u32, Refusal>
-        ensures answer { result ≡ opened (open_answer self.old.ledger.book temperature season) }
-        ensures state { self.new.ledger.book ≡ open_book self.old.ledger.book temperature season }
+    pub(crate) fn open(&mut self, weather: Weather) -> Result<u32, Refusal>
+        ensures answer { result ≡ opened (open_answer self.old.ledger.book weather.temperature weather.season) }
+        ensures state { self.new.ledger.book ≡ open_book self.old.ledger.book weather.temperature weather.season }
     {
         match &self.running {
             Running::Idle => {
-                let day = self.ledger.open(temperature, season)?;
+                let day = self.ledger.open(weather)?;
                 let number = day.number();
                 begin(&mut self.running, Running::Open(day));
                 Ok(number)
             }
-            _ if in_range(temperature, season) => Err(Refusal::DayRunning),
+            _ if weather.is_in_range() => Err(Refusal::DayRunning),
             _ => Err(Refusal::Weather),
         }
     }
@@ -152,7 +152,7 @@ impl Station {
                 let number = day.number();
                 match self.ledger.take_inflow(day, litres, rate) {
                     Ok(day) => (Running::Measured(day), Ok(number)),
-                    Err(Refused { why, token }) => (Running::Open(token), Err(why)),
+                    Err(Refused { why, given }) => (Running::Open(given), Err(why)),
                 }
             }
             running if litres > MAX_LITRES || rate > MAX_RATE => (running, Err(Refusal::Litres)),
@@ -169,17 +169,23 @@ impl Station {
         rule: &R,
         sheets: &mut Sheets,
     ) -> Result<SharedOut, Refusal>
-        ensures answer { result ≡ shared_told self.old.running (length sheets.old.points.items) (λ d. share_answer self.old.ledger.book d sheets.old.points.items (P.Profile.tells profile.now) P.Profile.segments (length sheets.old.uses.items) (length sheets.old.shares.items)) }
-        ensures state { self.new.ledger.book ≡ on_measured self.old.running self.old.ledger.book (λ d. share_book self.old.ledger.book d sheets.old.points.items (P.Profile.tells profile.now) R.ShareRule.shares P.Profile.segments (length sheets.old.uses.items) (length sheets.old.shares.items)) }
-        ensures rows { sheets.new.points.items ≡ on_measured self.old.running sheets.old.points.items (λ d. share_sheet self.old.ledger.book d sheets.old.points.items (P.Profile.tells profile.now) R.ShareRule.shares P.Profile.segments (length sheets.old.uses.items) (length sheets.old.shares.items)) }
-        ensures given { sheets.new.shares.items ≡ on_measured self.old.running sheets.old.shares.items (λ d. share_shares self.old.ledger.book d sheets.old.points.items (P.Profile.tells profile.now) R.ShareRule.shares P.Profile.segments (length sheets.old.uses.items) sheets.old.shares.items) }
+        ensures answer { result ≡ shared_told self.old.running (length sheets.old.points.items) (λ d. share_answer self.old.ledger.book d sheets.old.points.items (P.Profile.tells profile.now) P.Profile.SEGMENTS (length sheets.old.uses.items) (length sheets.old.shares.items)) }
+        ensures state { self.new.ledger.book ≡ on_measured self.old.running self.old.ledger.book (λ d. share_book self.old.ledger.book d sheets.old.points.items (P.Profile.tells profile.now) R.ShareRule.shares P.Profile.SEGMENTS (length sheets.old.uses.items) (length sheets.old.shares.items)) }
+        ensures rows { sheets.new.points.items ≡ on_measured self.old.running sheets.old.points.items (λ d. share_sheet self.old.ledger.book d sheets.old.points.items (P.Profile.tells profile.now) R.ShareRule.shares P.Profile.SEGMENTS (length sheets.old.uses.items) (length sheets.old.shares.items)) }
+        ensures given { sheets.new.shares.items ≡ on_measured self.old.running sheets.old.shares.items (λ d. share_shares self.old.ledger.book d sheets.old.points.items (P.Profile.tells profile.now) R.ShareRule.shares P.Profile.SEGMENTS (length sheets.old.uses.items) sheets.old.shares.items) }
     {
         let (running, told) = match replace(&mut self.running, Running::Idle) {
             Running::Measured(day) => {
-                let (points, uses, shares) = sheets.lend();
-                match self.ledger.share_out(day, points, profile, rule, uses, shares) {
+                match self.ledger.share_out(
+                    day,
+                    sheets.points.as_mut_slice(),
+                    profile,
+                    rule,
+                    sheets.uses.as_mut_slice(),
+                    sheets.shares.as_mut_slice(),
+                ) {
                     Ok(told) => (Running::Idle, Ok(told)),
-                    Err(Refused { why, token }) => (Running::Measured(token), Err(why)),
+                    Err(Refused { why, given }) => (Running::Measured(given), Err(why)),
                 }
             }
             running if sheets.points.len() > MAX_PLACES => (running, Err(Refusal::PointSheetLength)),

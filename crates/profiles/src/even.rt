@@ -6,7 +6,7 @@ ghost use Rattle.std.proofs.Common.{rules, arith};
 
 use crate::factors::{Factors, WHOLE};
 use crate::profile::Profile;
-use crate::weather::in_range;
+use crate::weather::Weather;
 use refusals::Refusal;
 
 #[derive(Drop)]
@@ -29,7 +29,7 @@ impl EvenProfile {
 impl Profile for EvenProfile {
     const SEGMENTS: u32 = 8;
 
-    ghost segments = { 8 };
+    ghost SEGMENTS = { 8 };
 
     ghost tells = { λ p segment t season. told 8 segment t season (both p.factor p.factor) };
 
@@ -39,12 +39,8 @@ impl Profile for EvenProfile {
 
     ghost outside = { first_of (Prim.search rules, Prim.grind (arith, Self.row.coded.inj)) };
 
-    fn segments_of() -> u32 {
-        Self::SEGMENTS
-    }
-
-    fn tell(&self, segment: u32, temperature: i16, season: u8) -> Factors {
-        if segment >= Self::SEGMENTS || !in_range(temperature, season) {
+    fn tell(&self, segment: u32, weather: Weather) -> Factors {
+        if segment >= Self::SEGMENTS || !weather.is_in_range() {
             return Factors::NONE;
         }
         Factors {

@@ -12,9 +12,9 @@ mod weather;
 pub use even::EvenProfile;
 pub use factors::{Factors, WHOLE};
 pub use profile::Profile;
-pub use season::{LayerRefused, SeasonLayer};
+pub use season::SeasonLayer;
 pub use table::TableProfile;
-pub use weather::in_range;
+pub use weather::Weather;
 
 #[cfg(test)]
 mod tests;

@@ -5,6 +5,7 @@ ghost use Rattle.profiles.specs.Asked.{asked};
 ghost use Rattle.profiles.specs.Laws.{both, Small};
 
 use crate::factors::Factors;
+use crate::weather::Weather;
 
 // A profile tells a multiplier and a day factor for a segment, a temperature and a season. Both depend on these three
 // and on what the profile holds; it never refuses, and telling changes nothing.
@@ -12,23 +13,19 @@ pub trait Profile {
     // The number of segments served: segments 0 up to it.
     const SEGMENTS: u32;
 
-    // The same number, for contracts: a clause cannot name the constant of a type parameter.
-    ghost segments: { ℕ };
+    ghost SEGMENTS: { ℕ };
 
     ghost tells: { Self → ℕ → ℤ → ℕ → Factors };
 
-    fn segments_of() -> u32
-        ensures { result ≡ segments };
-
-    fn tell(&self, segment: u32, temperature: i16, season: u8) -> Factors
-        ensures { result ≡ tells self.now segment temperature season };
+    fn tell(&self, segment: u32, weather: Weather) -> Factors
+        ensures { result ≡ tells self.now segment weather.temperature weather.season };
 
     // At least one segment is served, and at most eight.
-    ghost few: { (1 ≤ segments) × (segments ≤ 8) };
+    ghost few: { (1 ≤ SEGMENTS) × (SEGMENTS ≤ 8) };
 
     // Both numbers are factors.
     ghost small: { (p : Self) (segment : ℕ) (t : ℤ) (season : ℕ) → Small (tells p segment t season) };
 
     // Asked outside its segments, the temperatures or the seasons, it tells 0 and 0.
-    ghost outside: { (p : Self) (segment : ℕ) (t : ℤ) (season : ℕ) → asked segments segment t season ≡ false → tells p segment t season ≡ both 0 0 };
+    ghost outside: { (p : Self) (segment : ℕ) (t : ℤ) (season : ℕ) → asked SEGMENTS segment t season ≡ false → tells p segment t season ≡ both 0 0 };
 }

@@ -9,8 +9,8 @@ ghost use Rattle.std.proofs.Common.{rules, arith};
 use crate::factors::{Factors, WHOLE};
 use crate::profile::Profile;
 use crate::sheet::Sheet;
-use crate::weather::{LAST_SEASON, place};
-use refusals::Refusal;
+use crate::weather::{LAST_SEASON, Weather};
+use refusals::{Refusal, Refused};
 
 // Four rows, one for each season, of 381 columns.
 const CELLS: usize = 1524;
@@ -28,23 +28,16 @@ pub struct SeasonLayer<P> {
     ghost own: { segment ≤ last_segment },
 }
 
-// A layer that was not made, with the profile that it was to stand over.
-#[derive(Drop)]
-pub struct LayerRefused<P> {
-    pub why: Refusal,
-    pub below: P,
-}
-
 impl<P: Profile> SeasonLayer<P> {
-    // A layer for one segment that changes nothing until a sheet is filled in.
-    pub fn new(below: P, segment: u32) -> Result<SeasonLayer<P>, LayerRefused<P>>
-        ensures holds { MatchResult result (λ l. (l.below ≡ below) × (l.segment ≡ segment) × (l.sheet.numbers ≡ replicate layer_cells whole)) (λ e. (e.why ≡ Particulars) × (e.below ≡ below) × (last_segment < segment)) }
+    // A layer for one segment that changes nothing until a sheet is filled in. A refusal hands the profile below back.
+    pub fn new(below: P, segment: u32) -> Result<SeasonLayer<P>, Refused<P>>
+        ensures holds { MatchResult result (λ l. (l.below ≡ below) × (l.segment ≡ segment) × (l.sheet.numbers ≡ replicate layer_cells whole)) (λ e. (e.why ≡ Particulars) × (e.given ≡ below) × (last_segment < segment)) }
         ensures idle { IfOk result (λ l. Same (layer_tells l.segment l.sheet.numbers (P.Profile.tells l.below)) (P.Profile.tells below)) }
     {
         if segment > LAST_SEGMENT {
-            return Err(LayerRefused {
+            return Err(Refused {
                 why: Refusal::Particulars,
-                below,
+                given: below,
             });
         }
         Ok(SeasonLayer {
@@ -68,7 +61,7 @@ impl<P: Profile> SeasonLayer<P> {
 impl<P: Profile> Profile for SeasonLayer<P> {
     const SEGMENTS: u32 = P::SEGMENTS;
 
-    ghost segments = { P.Profile.segments };
+    ghost SEGMENTS = { P.Profile.SEGMENTS };
 
     ghost tells = { λ l. layer_tells l.segment l.sheet.numbers (P.Profile.tells l.below) };
 
@@ -78,20 +71,16 @@ impl<P: Profile> Profile for SeasonLayer<P> {
 
     ghost outside = { first_of (Prim.search rules, Prim.grind (arith, Self.row.coded.inj)) };
 
-    fn segments_of() -> u32 {
-        P::segments_of()
-    }
-
-    fn tell(&self, segment: u32, temperature: i16, season: u8) -> Factors {
-        let told = self.below.tell(segment, temperature, season);
-        if segment != self.segment || season > LAST_SEASON {
+    fn tell(&self, segment: u32, weather: Weather) -> Factors {
+        let told = self.below.tell(segment, weather);
+        if segment != self.segment || weather.season > LAST_SEASON {
             return told;
         }
-        let number = self.sheet.at(place(season as u32, temperature));
-        let day = told.day as u64 * number as u64 / WHOLE as u64;
+        let number = self.sheet.at(weather.place(u32::from(weather.season)));
+        let day = u64::from(told.day) * u64::from(number) / u64::from(WHOLE);
         Factors {
             multiplier: told.multiplier,
-            day: day.min(WHOLE as u64) as u32,
+            day: day.min(u64::from(WHOLE)) as u32,
         }
     }
 }

@@ -1,8 +1,16 @@
 // A sheet of numbers, none of them above a limit.
-ghost use Rattle.std.specs.Prelude.{◌≡◌, ℕ, ◌<◌, ◌≤◌, length, replicate, is_ok, if◌then◌else◌, slice_index};
+ghost use Rattle.std.specs.Prelude.{◌≡◌, ℕ, ◌<◌, ◌≤◌, length, replicate, is_ok, if◌then◌else◌, slice_index, nat_le};
+ghost use Rattle.std.specs.List.{list_all};
 ghost use Rattle.profiles.specs.Sheets.{verdict};
 
 use refusals::Refusal;
+
+// Whether no number is above the limit.
+fn all_within(limit: u32, sheet: &[u32]) -> bool
+    ensures { result ≡ list_all (λ x. nat_le x limit) sheet.now }
+{
+    sheet.iter().all(|x| *x <= limit)
+}
 
 #[derive(Drop)]
 pub(crate) struct Sheet<const CELLS: usize, const LIMIT: u32> {
@@ -27,17 +35,10 @@ impl<const CELLS: usize, const LIMIT: u32> Sheet<CELLS, LIMIT> {
         ensures taken { result ≡ verdict CELLS LIMIT sheet.now }
         ensures after { self.new.numbers ≡ (if is_ok result then sheet.now else self.old.numbers) }
     {
-        if sheet.len() != CELLS {
+        if sheet.len() != CELLS || !all_within(LIMIT, sheet) {
             return Err(Refusal::ProfileSheet);
         }
-        let mut numbers = self.numbers;
-        for (i, x) in sheet.iter().enumerate() {
-            if *x > LIMIT {
-                return Err(Refusal::ProfileSheet);
-            }
-            numbers[i] = *x;
-        }
-        self.numbers = numbers;
+        self.numbers.copy_from_slice(sheet);
         Ok(())
     }
 

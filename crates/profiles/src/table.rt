@@ -8,7 +8,7 @@ ghost use Rattle.std.proofs.Common.{rules};
 use crate::factors::{Factors, WHOLE};
 use crate::profile::Profile;
 use crate::sheet::Sheet;
-use crate::weather::{in_range, place};
+use crate::weather::Weather;
 use refusals::Refusal;
 
 // Two rows, residential and business, of 381 columns.
@@ -44,7 +44,7 @@ impl TableProfile {
 impl Profile for TableProfile {
     const SEGMENTS: u32 = 2;
 
-    ghost segments = { table_segments };
+    ghost SEGMENTS = { table_segments };
 
     ghost tells = { λ p. table_tells p.sheet.numbers };
 
@@ -54,15 +54,11 @@ impl Profile for TableProfile {
 
     ghost outside = { Prim.search rules };
 
-    fn segments_of() -> u32 {
-        Self::SEGMENTS
-    }
-
-    fn tell(&self, segment: u32, temperature: i16, season: u8) -> Factors {
-        if segment >= Self::SEGMENTS || !in_range(temperature, season) {
+    fn tell(&self, segment: u32, weather: Weather) -> Factors {
+        if segment >= Self::SEGMENTS || !weather.is_in_range() {
             return Factors::NONE;
         }
-        let factor = self.sheet.at(place(segment, temperature));
+        let factor = self.sheet.at(weather.place(segment));
         Factors {
             multiplier: factor,
             day: factor,

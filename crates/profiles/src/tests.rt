@@ -4,6 +4,7 @@ use crate::factors::Factors;
 use crate::profile::Profile;
 use crate::season::SeasonLayer;
 use crate::table::TableProfile;
+use crate::weather::Weather;
 use refusals::Refusal;
 use std::test::Fail;
 
@@ -21,8 +22,15 @@ fn table() -> TableProfile {
     table
 }
 
+fn at(temperature: i16, season: u8) -> Weather {
+    Weather {
+        temperature,
+        season,
+    }
+}
+
 fn tells<P: Profile>(profile: &P, segment: u32, temperature: i16, factor: u32) -> bool {
-    profile.tell(segment, temperature, 0)
+    profile.tell(segment, at(temperature, 0))
         == (Factors {
             multiplier: factor,
             day: factor,
@@ -44,7 +52,7 @@ fn table_ends(rt: HostRuntime) {
 fn outside(rt: HostRuntime) -> Result<(), Fail> {
     let table = table();
     assert!(rt; tells(&table, 2, 0, 0) && tells(&table, 0, -401, 0) && tells(&table, 0, 501, 0));
-    assert_eq!(rt; table.tell(0, 0, 4), Factors::NONE);
+    assert_eq!(rt; table.tell(0, at(0, 4)), Factors::NONE);
     let even = EvenProfile::new(10_000_000)?;
     assert!(rt; tells(&even, 7, 0, 10_000_000) && tells(&even, 8, 0, 0));
     assert!(rt; EvenProfile::new(10_000_001).is_err());
@@ -81,7 +89,7 @@ fn pile() -> Result<SeasonLayer<SeasonLayer<TableProfile>>, Fail> {
 fn layers(rt: HostRuntime) -> Result<(), Fail> {
     let pile = pile()?;
     assert_eq!(rt;
-        pile.tell(0, -90, 1),
+        pile.tell(0, at(-90, 1)),
         Factors {
             multiplier: 962_833,
             day: 481_416,
@@ -89,14 +97,14 @@ fn layers(rt: HostRuntime) -> Result<(), Fail> {
     );
     assert!(rt; tells(&pile, 1, -80, 14) && tells(&pile, 2, 0, 0));
     assert_eq!(rt;
-        pile.tell(1, -80, 3),
+        pile.tell(1, at(-80, 3)),
         Factors {
             multiplier: 14,
             day: 28,
         }
     );
     assert_eq!(rt;
-        pile.tell(1, 300, 3),
+        pile.tell(1, at(300, 3)),
         Factors {
             multiplier: 10_000_000,
             day: 10_000_000,
@@ -117,6 +125,6 @@ fn layer_segments(rt: HostRuntime) -> Result<(), Fail> {
         return Err(Fail::new("segment 8"));
     };
     assert_eq!(rt; refused.why, Refusal::Particulars);
-    assert!(rt; tells(&refused.below, 0, -80, 962_833));
+    assert!(rt; tells(&refused.given, 0, -80, 962_833));
     Ok(())
 }

@@ -1,5 +1,4 @@
-// Temperatures in tenths of a degree Celsius, and seasons: 0 winter, 1 transition in heating time, 2 transition outside
-// it, 3 summer.
+// The weather that a profile is asked about.
 ghost use Rattle.std.specs.Prelude.{◌≡◌, ◌+◌, ◌*◌, ◌<◌};
 ghost use Rattle.profiles.specs.Asked.{within, columns, column, place};
 
@@ -17,25 +16,35 @@ const LAST_TENTH: i16 = 300;
 // One column for each tenth from -8.0 to 30.0 degrees.
 const COLUMNS: usize = 381;
 
-// Whether it is a temperature from -40.0 to 50.0 degrees, and one of the four seasons.
-pub fn in_range(temperature: i16, season: u8) -> bool
-    ensures { result ≡ within temperature season }
-{
-    temperature >= COLDEST && temperature <= HOTTEST && season <= LAST_SEASON
+// A temperature in tenths of a degree Celsius, and a season: 0 winter, 1 transition in heating time, 2 transition outside it,
+// 3 summer. Both may be any number: a bad one is refused by its number, or told nothing.
+#[derive(Clone, Copy, PartialEq, Eq, Debug)]
+pub struct Weather {
+    pub temperature: i16,
+    pub season: u8,
 }
 
-// The temperature's column in a sheet; colder or warmer than the sheet goes, that of the nearer end.
-fn column(temperature: i16) -> usize
-    ensures is { result ≡ column temperature }
-    ensures inside { result < columns }
-{
-    (temperature.clamp(FIRST_TENTH, LAST_TENTH) - FIRST_TENTH) as usize
-}
+impl Weather {
+    // Whether it is a temperature from -40.0 to 50.0 degrees, and one of the four seasons.
+    pub fn is_in_range(self) -> bool
+        ensures { result ≡ within self.temperature self.season }
+    {
+        (COLDEST..=HOTTEST).contains(&self.temperature) && self.season <= LAST_SEASON
+    }
 
-// Where a row and a temperature stand in a sheet.
-pub(crate) fn place(row: u32, temperature: i16) -> usize
-    ensures is { result ≡ place row temperature }
-    ensures inside { result < row * columns + columns }
-{
-    row as usize * COLUMNS + column(temperature)
+    // The temperature's column in a sheet; colder or warmer than the sheet goes, that of the nearer end.
+    fn column(self) -> usize
+        ensures is { result ≡ column self.temperature }
+        ensures inside { result < columns }
+    {
+        (self.temperature.clamp(FIRST_TENTH, LAST_TENTH) - FIRST_TENTH) as usize
+    }
+
+    // Where its column of a row stands in a sheet.
+    pub(crate) fn place(self, row: u32) -> usize
+        ensures is { result ≡ place row self.temperature }
+        ensures inside { result < row * columns + columns }
+    {
+        row as usize * COLUMNS + self.column()
+    }
 }

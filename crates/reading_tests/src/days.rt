@@ -3,7 +3,7 @@ ghost use Rattle.std.specs.Prelude.{◌≡◌, true, IfOk, IfErr, MatchResult};
 ghost use Rattle.ledger.specs.Days.{is_open, is_measured};
 
 use ledger::{Ledger, MeasuredDay, OpenDay, Point, Refused, SharedOut};
-use profiles::EvenProfile;
+use profiles::{EvenProfile, Weather};
 use shares::Running;
 use std::test::Fail;
 
@@ -31,7 +31,10 @@ pub(crate) fn end_measured(ledger: &mut Ledger, day: MeasuredDay)
 fn opened(ledger: &mut Ledger) -> Result<OpenDay, Fail>
     ensures { IfOk result (λ d. is_open ledger.new.book.phase d.number ≡ true) }
 {
-    match ledger.open(105, 1) {
+    match ledger.open(Weather {
+        temperature: 105,
+        season: 1,
+    }) {
         Ok(day) => Ok(day),
         Err(why) => Err(Fail::new(why.number())),
     }
@@ -39,7 +42,7 @@ fn opened(ledger: &mut Ledger) -> Result<OpenDay, Fail>
 
 // Takes an inflow without loss. A refusal hands the day back, and leaves the running day.
 fn taking(ledger: &mut Ledger, day: OpenDay, inflow: u64) -> Result<MeasuredDay, Refused<OpenDay>>
-    ensures { MatchResult result (λ d. is_measured ledger.new.book.phase d.number ≡ true) (λ e. (e.token ≡ day) × (ledger.new.book.phase ≡ ledger.old.book.phase)) }
+    ensures { MatchResult result (λ d. is_measured ledger.new.book.phase d.number ≡ true) (λ e. (e.given ≡ day) × (ledger.new.book.phase ≡ ledger.old.book.phase)) }
 {
     ledger.take_inflow(day, inflow, 0)
 }
@@ -51,8 +54,8 @@ pub(crate) fn measured(ledger: &mut Ledger, inflow: u64) -> Result<MeasuredDay, 
     let day = opened(ledger)?;
     match taking(ledger, day, inflow) {
         Ok(measured) => Ok(measured),
-        Err(Refused { why, token }) => {
-            end_open(ledger, token);
+        Err(Refused { why, given }) => {
+            end_open(ledger, given);
             Err(Fail::new(why.number()))
         }
     }
@@ -65,7 +68,7 @@ pub(crate) fn sharing_out(
     sheet: &mut [Point],
     profile: &EvenProfile,
 ) -> Result<SharedOut, Refused<MeasuredDay>>
-    ensures { IfErr result (λ e. (e.token ≡ day) × (ledger.new.book.phase ≡ ledger.old.book.phase)) }
+    ensures { IfErr result (λ e. (e.given ≡ day) × (ledger.new.book.phase ≡ ledger.old.book.phase)) }
 {
     ledger.share_out(day, sheet, profile, &Running, &mut [0; 2], &mut [0; 2])
 }

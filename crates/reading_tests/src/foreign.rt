@@ -24,8 +24,8 @@ fn brought(ledger: &mut Ledger, sheet: &mut [Point; 2], call: Call) -> Result<u8
     let rows = *sheet;
     match ending(ledger, sheet, theirs, call) {
         Ok(_) => Ok(0),
-        Err(Refused { why, token }) => {
-            end(&other, token);
+        Err(Refused { why, given }) => {
+            end(&other, given);
             if Seen::of(ledger) != before || *sheet != rows {
                 return Err(Changed)?;
             }

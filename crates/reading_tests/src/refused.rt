@@ -35,8 +35,8 @@ fn past_the_points<const N: usize>(
     let mut sheet = rows;
     match ending(&mut ledger, &mut sheet, slip, call) {
         Ok(_) => Ok(0),
-        Err(Refused { why, token }) => {
-            end(&other, token);
+        Err(Refused { why, given }) => {
+            end(&other, given);
             assert!(rt; Seen::of(&ledger) == before && sheet == rows);
             Ok(why.number())
         }

@@ -48,7 +48,7 @@ pub(crate) fn ending(
     slip: Slip,
     call: Call,
 ) -> Result<i64, Refused<Slip>>
-    ensures slip { IfErr result (λ e. e.token ≡ slip) }
+    ensures slip { IfErr result (λ e. e.given ≡ slip) }
     ensures points { ledger.new.book.counts.points ≡ ledger.old.book.counts.points }
     ensures day { ledger.new.book.phase ≡ ledger.old.book.phase }
 {
@@ -74,8 +74,8 @@ pub(crate) fn ended(
 {
     match ending(ledger, sheet, slip, call) {
         Ok(by) => Ok(by),
-        Err(Refused { why, token }) => {
-            end(ledger, token);
+        Err(Refused { why, given }) => {
+            end(ledger, given);
             Err(why)
         }
     }

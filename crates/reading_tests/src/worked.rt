@@ -157,8 +157,8 @@ fn handed_over_within(
     };
     match sharing_out(ledger, day, sheet, profile) {
         Ok(_) => Ok(told?),
-        Err(Refused { why, token }) => {
-            end_measured(ledger, token);
+        Err(Refused { why, given }) => {
+            end_measured(ledger, given);
             Err(Fail::new(why.number()))
         }
     }

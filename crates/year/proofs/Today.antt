@@ -4,7 +4,7 @@ use Rattle.std.proofs.lemmas.Bool.{eqb-true, leb-true, and_parts, false≢true}
 use Rattle.ledger.specs.declared.book.Trader.{Trader}
 use Rattle.ledger.specs.declared.day.Phase.{Phase}
 use Rattle.ledger.specs.declared.day.Phase.TheVariants.{Idle, Open, Measured}
-use Rattle.ledger.specs.declared.day.Weather.{Weather as Sky}
+use Rattle.profiles.specs.declared.weather.Weather.{Weather as Sky}
 use Rattle.ledger.specs.Limits.{max_litres}
 use Rattle.ledger.specs.Accounts.{metered_at, metered_sum, entered, day_holds}
 use Rattle.ledger.specs.Days.{is_idle, is_open, is_measured, sky_of, sky_in, loss_of, quantity_of}

@@ -6,9 +6,9 @@ ghost use Rattle.ledger.specs.Days.{is_idle, is_open, is_measured, sky_in, loss_
 ghost use Rattle.ledger.specs.Days.{abandon_open_answer, abandon_open_book, abandon_measured_answer, abandon_measured_book};
 
 use super::{Book, MAX_LITRES};
-use crate::day::{MeasuredDay, OpenDay, Phase, Refused, Weather};
-use profiles::in_range;
-use refusals::Refusal;
+use crate::day::{MeasuredDay, OpenDay, Phase};
+use profiles::Weather;
+use refusals::{Refusal, Refused};
 
 // All of the inflow, in millionths.
 const MAX_RATE: u32 = 1_000_000;
@@ -73,7 +73,7 @@ impl Book {
     fn open_fault(&self, weather: Weather) -> Option<Refusal>
         ensures { result ≡ open_fault self.now weather.temperature weather.season }
     {
-        if !in_range(weather.temperature, weather.season) {
+        if !weather.is_in_range() {
             return Some(Refusal::Weather);
         }
         if !self.phase.is_idle() {
@@ -88,16 +88,12 @@ impl Book {
         None
     }
 
-    pub(crate) fn open(&mut self, temperature: i16, season: u8) -> Result<OpenDay, Refusal>
+    pub(crate) fn open(&mut self, weather: Weather) -> Result<OpenDay, Refusal>
         requires { Sound self.old }
-        ensures answer { result ≡ open_answer self.old temperature season }
-        ensures state { self.new ≡ open_book self.old temperature season }
+        ensures answer { result ≡ open_answer self.old weather.temperature weather.season }
+        ensures state { self.new ≡ open_book self.old weather.temperature weather.season }
         ensures sound { Sound self.new }
     {
-        let weather = Weather {
-            temperature,
-            season,
-        };
         match self.open_fault(weather) {
             Some(why) => Err(why),
             None => {
@@ -187,7 +183,7 @@ impl Book {
         ensures sound { Sound self.new }
     {
         match self.inflow_fault(&day, inflow, rate) {
-            Some(why) => Err(Refused { why, token: day }),
+            Some(why) => Err(Refused { why, given: day }),
             None => {
                 let loss = loss_of(inflow, rate);
                 let quantity = inflow - loss - self.metered_sum();
@@ -238,7 +234,7 @@ impl Book {
         } else {
             Err(Refused {
                 why: Refusal::NotRunning,
-                token: day,
+                given: day,
             })
         }
     }
@@ -256,7 +252,7 @@ impl Book {
         } else {
             Err(Refused {
                 why: Refusal::NotRunning,
-                token: day,
+                given: day,
             })
         }
     }

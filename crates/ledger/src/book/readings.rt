@@ -7,11 +7,10 @@ ghost use Rattle.ledger.specs.Readings.{hand_fault, hand_answer, hand_book, hand
 ghost use Rattle.ledger.specs.Rows.{in_range, row_at};
 
 use super::{Book, MAX_SCALE, Trader, dial_end, sheet_fits};
-use crate::day::Refused;
 use crate::point::Point;
 use crate::slip::Slip;
 use profiles::WHOLE;
-use refusals::Refusal;
+use refusals::{Refusal, Refused};
 
 const MAX_READINGS: u32 = 1_000_000;
 
@@ -223,7 +222,7 @@ impl Book {
         ensures sound { Sound self.new }
     {
         match self.book_fault(sheet, &slip) {
-            Some(why) => Err(Refused { why, token: slip }),
+            Some(why) => Err(Refused { why, given: slip }),
             None => {
                 let Slip { number: _, point } = slip;
                 let row = sheet[point];
@@ -272,7 +271,7 @@ impl Book {
         ensures sound { Sound self.new }
     {
         match self.hand_fault(sheet, &slip, trader) {
-            Some(why) => Err(Refused { why, token: slip }),
+            Some(why) => Err(Refused { why, given: slip }),
             None => {
                 let Slip { number: _, point } = slip;
                 let row = sheet[point];
@@ -304,7 +303,7 @@ impl Book {
         ensures rows { sheet.new ≡ withdraw_sheet self.now sheet.old slip }
     {
         match self.withdraw_fault(sheet, &slip) {
-            Some(why) => Err(Refused { why, token: slip }),
+            Some(why) => Err(Refused { why, given: slip }),
             None => {
                 let Slip { number: _, point } = slip;
                 sheet[point] = sheet[point].with_slip(0, 0);

@@ -7,10 +7,10 @@ ghost use Rattle.ledger.specs.Sharing.{Weighable, told_on, day_quantity, day_los
 
 use super::rows::test_rows;
 use super::{Book, Trader, sheet_fits};
-use crate::day::{MeasuredDay, Phase, Refused, SharedOut, Weather};
+use crate::day::{MeasuredDay, Phase, SharedOut};
 use crate::point::Point;
-use profiles::{Factors, Profile, WHOLE};
-use refusals::Refusal;
+use profiles::{Factors, Profile, WHOLE, Weather};
+use refusals::{Refusal, Refused};
 use shares::ShareRule;
 
 // A day's weights: what the profile told for each segment, and the sum of the profile consumptions.
@@ -26,7 +26,7 @@ fn ask<P: Profile>(profile: &P, weather: Weather) -> [Factors; 8]
 {
     let mut told = [Factors::NONE; 8];
     for segment in 0..8u32 {
-        told[segment as usize] = profile.tell(segment, weather.temperature, weather.season);
+        told[segment as usize] = profile.tell(segment, weather);
     }
     told
 }
@@ -131,7 +131,7 @@ impl Book {
         uses: usize,
         shares: usize,
     ) -> Option<Refusal>
-        ensures { result ≡ share_grounds self.now day.now sheet.now P.Profile.segments uses shares }
+        ensures { result ≡ share_grounds self.now day.now sheet.now P.Profile.SEGMENTS uses shares }
     {
         let n = self.counts.points;
         if !sheet_fits(n, sheet) {
@@ -140,7 +140,7 @@ impl Book {
         if uses < n || shares < n {
             return Some(Refusal::WorkSheetLength);
         }
-        let rows = test_rows(sheet, n, self.counts.traders, P::segments_of());
+        let rows = test_rows(sheet, n, self.counts.traders, P::SEGMENTS);
         if !rows.may_share {
             return Some(Refusal::ForeignSheet);
         }
@@ -240,15 +240,15 @@ impl Book {
         shares: &mut [u64],
     ) -> Result<SharedOut, Refused<MeasuredDay>>
         requires { Sound self.old }
-        ensures answer { result ≡ share_answer self.old day sheet.old (P.Profile.tells profile.now) P.Profile.segments (length uses.old) (length shares.old) }
-        ensures state { self.new ≡ share_book self.old day sheet.old (P.Profile.tells profile.now) R.ShareRule.shares P.Profile.segments (length uses.old) (length shares.old) }
-        ensures rows { sheet.new ≡ share_sheet self.old day sheet.old (P.Profile.tells profile.now) R.ShareRule.shares P.Profile.segments (length uses.old) (length shares.old) }
-        ensures weighed { uses.new ≡ share_uses self.old day sheet.old (P.Profile.tells profile.now) P.Profile.segments uses.old (length shares.old) }
-        ensures given { shares.new ≡ share_shares self.old day sheet.old (P.Profile.tells profile.now) R.ShareRule.shares P.Profile.segments (length uses.old) shares.old }
+        ensures answer { result ≡ share_answer self.old day sheet.old (P.Profile.tells profile.now) P.Profile.SEGMENTS (length uses.old) (length shares.old) }
+        ensures state { self.new ≡ share_book self.old day sheet.old (P.Profile.tells profile.now) R.ShareRule.shares P.Profile.SEGMENTS (length uses.old) (length shares.old) }
+        ensures rows { sheet.new ≡ share_sheet self.old day sheet.old (P.Profile.tells profile.now) R.ShareRule.shares P.Profile.SEGMENTS (length uses.old) (length shares.old) }
+        ensures weighed { uses.new ≡ share_uses self.old day sheet.old (P.Profile.tells profile.now) P.Profile.SEGMENTS uses.old (length shares.old) }
+        ensures given { shares.new ≡ share_shares self.old day sheet.old (P.Profile.tells profile.now) R.ShareRule.shares P.Profile.SEGMENTS (length uses.old) shares.old }
         ensures sound { Sound self.new }
     {
         match self.share_grounds::<P>(&day, sheet, uses.len(), shares.len()) {
-            Some(why) => Err(Refused { why, token: day }),
+            Some(why) => Err(Refused { why, given: day }),
             None => {
                 let quantity = self.phase.quantity();
                 let loss = self.phase.loss();
@@ -256,7 +256,7 @@ impl Book {
                 if quantity > 0 && total == 0 {
                     return Err(Refused {
                         why: Refusal::NoWeight,
-                        token: day,
+                        given: day,
                     });
                 }
                 self.close_day(sheet, rule, &told, uses, shares);

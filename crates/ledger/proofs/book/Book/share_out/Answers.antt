@@ -9,20 +9,20 @@ use Rattle.ledger.proofs.book.Book.share_out.Goals as goal
 
 pub weigh_day-total-requires : goal.weigh_day-total-requires
 weigh_day-total-requires g c =
-    passed c.args.self.now c.args.day c.args.sheet.now g.P.Profile.segments (length c.args.uses.now) (length c.args.shares.now) (sym c.share_grounds.ensures ∙ c.in-None.is)
+    passed c.args.self.now c.args.day c.args.sheet.now g.P.Profile.SEGMENTS (length c.args.uses.now) (length c.args.shares.now) (sym c.share_grounds.ensures ∙ c.in-None.is)
 
 pub returns-then-total-eq0 : goal.returns-then-total-eq0
 returns-then-total-eq0 g c =
     let none = sym c.share_grounds.ensures ∙ c.in-None.is in
     let w = c.weigh_day-total.ensures in
-    let d = weightless c.args.self.now c.args.day c.args.sheet.now (g.P.Profile.tells c.args.profile.now) g.P.Profile.segments c.args.uses.now c.args.shares.now c.weigh_day-total.new.uses g.R.ShareRule.shares
+    let d = weightless c.args.self.now c.args.day c.args.sheet.now (g.P.Profile.tells c.args.profile.now) g.P.Profile.SEGMENTS c.args.uses.now c.args.shares.now c.weigh_day-total.new.uses g.R.ShareRule.shares
     _ _ none w.written w.total c.quantity-quantity.ensures c.if-quantity-gt0.true c.if-total-eq0.true in
     record { answer = d.answer; state = d.state; rows = d.rows; weighed = d.weighed; given = d.given; sound = c.requires }
 
 pub close_day-requires : goal.close_day-requires
 close_day-requires g c =
     let l = c.args.self.now in
-    let n = g.P.Profile.segments in
+    let n = g.P.Profile.SEGMENTS in
     let none = sym c.share_grounds.ensures ∙ c.in-None.is in
     let us = length c.args.uses.now in
     let ss = length c.args.shares.now in
@@ -37,7 +37,7 @@ pub returns-else-quantity-gt0 : goal.returns-else-quantity-gt0
 returns-else-quantity-gt0 g c =
     let l = c.args.self.now in
     let f = g.P.Profile.tells c.args.profile.now in
-    let n = g.P.Profile.segments in
+    let n = g.P.Profile.SEGMENTS in
     let rule = g.R.ShareRule.shares in
     let met = g.met.R.ShareRule in
     let law : LawfulRule rule = record { places = met.places; whole = met.whole; near = met.near; refused = met.refused } in

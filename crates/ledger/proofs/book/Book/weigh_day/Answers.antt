@@ -1,6 +1,6 @@
 use Rattle.std.proofs.Common.{ℕ, ◌++◌, map, length, drop, sum, ap, ◌∙◌, arith}
 use Rattle.std.specs.List.{range_with_len}
-use Rattle.ledger.specs.declared.day.Weather.{Weather}
+use Rattle.profiles.specs.declared.weather.Weather.{Weather}
 use Rattle.ledger.proofs.ShareOut.{segment_small, weighed_is}
 use Rattle.ledger.proofs.book.Book.weigh_day.Goals as goal
 
