@@ -410,8 +410,8 @@ impl Player {
             measured: _,
             inflow: _,
         } = self;
-        let ledger = station.close();
-        slips.end(&ledger, sheets.points.as_mut_slice())
+        let closed = station.close();
+        slips.end(&closed, sheets.points.as_mut_slice())
     }
 }
 

@@ -41,12 +41,11 @@ impl Layer {
     // A layer that can be made: its segment is tested, then its numbers.
     pub(crate) fn new(segment: u32, numbers: Vec<u32>) -> Result<Layer, Refusal> {
         let layer = Layer { segment, numbers };
-        let _tested = layer.over(&EvenProfile::new(0)?)?;
+        let _tested = layer.over(EvenProfile::new(0)?)?;
         Ok(layer)
     }
 
-    // A season layer over a profile that it borrows.
-    fn over<'a, P: Profile>(&self, below: &'a P) -> Result<SeasonLayer<&'a P>, Refusal> {
+    fn over<P: Profile + Drop>(&self, below: P) -> Result<SeasonLayer<P>, Refusal> {
         let mut profile = SeasonLayer::new(below, self.segment).map_err(|refused| refused.why)?;
         profile.fill(self.numbers.as_slice())?;
         Ok(profile)
@@ -99,27 +98,27 @@ impl Recipe {
     ) -> Result<SharedOut, Refusal> {
         match &self.base {
             Base::Table(numbers) => {
-                self.share_over(&table(numbers.as_slice())?, station, rule, sheets)
+                self.share_over(table(numbers.as_slice())?, station, rule, sheets)
             }
             Base::Even(factor) => {
-                self.share_over(&EvenProfile::new(*factor)?, station, rule, sheets)
+                self.share_over(EvenProfile::new(*factor)?, station, rule, sheets)
             }
         }
     }
 
-    fn share_over<P: Profile, R: ShareRule>(
+    fn share_over<P: Profile + Drop, R: ShareRule>(
         &self,
-        base: &P,
+        base: P,
         station: &mut Station,
         rule: &R,
         sheets: &mut Sheets,
     ) -> Result<SharedOut, Refusal> {
         match self.layers.as_slice() {
-            [] => station.share(base, rule, sheets),
+            [] => station.share(&base, rule, sheets),
             [layer] => station.share(&layer.over(base)?, rule, sheets),
             [lower, upper, ..] => {
                 let lower = lower.over(base)?;
-                station.share(&upper.over(&lower)?, rule, sheets)
+                station.share(&upper.over(lower)?, rule, sheets)
             }
         }
     }

@@ -174,25 +174,30 @@ impl Station {
         ensures rows { sheets.new.points.items ≡ on_measured self.old.running sheets.old.points.items (λ d. share_sheet self.old.ledger.book d sheets.old.points.items (P.Profile.tells profile.now) R.ShareRule.shares P.Profile.SEGMENTS (length sheets.old.uses.items) (length sheets.old.shares.items)) }
         ensures given { sheets.new.shares.items ≡ on_measured self.old.running sheets.old.shares.items (λ d. share_shares self.old.ledger.book d sheets.old.points.items (P.Profile.tells profile.now) R.ShareRule.shares P.Profile.SEGMENTS (length sheets.old.uses.items) sheets.old.shares.items) }
     {
-        let (running, told) = match replace(&mut self.running, Running::Idle) {
-            Running::Measured(day) => {
-                match self.ledger.share_out(
-                    day,
-                    sheets.points.as_mut_slice(),
-                    profile,
-                    rule,
-                    sheets.uses.as_mut_slice(),
-                    sheets.shares.as_mut_slice(),
-                ) {
-                    Ok(told) => (Running::Idle, Ok(told)),
-                    Err(Refused { why, given }) => (Running::Measured(given), Err(why)),
+        match replace(&mut self.running, Running::Idle) {
+            Running::Measured(day) => match self.ledger.share_out(
+                day,
+                sheets.points.as_mut_slice(),
+                profile,
+                rule,
+                sheets.uses.as_mut_slice(),
+                sheets.shares.as_mut_slice(),
+            ) {
+                Ok(told) => Ok(told),
+                Err(Refused { why, given }) => {
+                    begin(&mut self.running, Running::Measured(given));
+                    Err(why)
                 }
+            },
+            running => {
+                begin(&mut self.running, running);
+                Err(if sheets.points.len() > MAX_PLACES {
+                    Refusal::PointSheetLength
+                } else {
+                    Refusal::NotRunning
+                })
             }
-            running if sheets.points.len() > MAX_PLACES => (running, Err(Refusal::PointSheetLength)),
-            running => (running, Err(Refusal::NotRunning)),
-        };
-        begin(&mut self.running, running);
-        told
+        }
     }
 
     // Ends the running day: its number by openings.
