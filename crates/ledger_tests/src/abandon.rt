@@ -10,10 +10,10 @@ fn open_of_another(ledger: &mut Ledger, other: &mut Ledger) -> Result<Outcome, F
     let day = opened(other)?;
     let before = Seen::of(ledger);
     match ending_open(ledger, day) {
-        Ok(()) => Ok(Outcome::new(0, before, ledger)),
+        Ok(()) => Ok(Outcome::new(None, before, ledger)),
         Err(Refused { why, given }) => {
             end_open(other, given);
-            Ok(Outcome::new(why.number(), before, ledger))
+            Ok(Outcome::new(Some(why.number()), before, ledger))
         }
     }
 }
@@ -23,10 +23,10 @@ fn measured_of_another(ledger: &mut Ledger, other: &mut Ledger) -> Result<Outcom
     let day = measured(other, [0, 0], 1_000_000, 0)?;
     let before = Seen::of(ledger);
     match ending_measured(ledger, day) {
-        Ok(()) => Ok(Outcome::new(0, before, ledger)),
+        Ok(()) => Ok(Outcome::new(None, before, ledger)),
         Err(Refused { why, given }) => {
             end_measured(other, given);
-            Ok(Outcome::new(why.number(), before, ledger))
+            Ok(Outcome::new(Some(why.number()), before, ledger))
         }
     }
 }

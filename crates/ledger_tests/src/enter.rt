@@ -5,12 +5,12 @@ use crate::station::two_traders;
 use ledger::Ledger;
 use std::test::Fail;
 
-// An entry on a day on which so much was metered before, and the number of its refusal, 0 for none.
+// An entry on a day on which so much was metered before, and the number of its refusal, if any.
 struct Entry {
     metered: u64,
     trader: u32,
     litres: u64,
-    number: u8,
+    number: Option<u8>,
 }
 
 // Tries an entry.
@@ -63,37 +63,37 @@ static ENTRIES: [Entry; 6] = [
         metered: 0,
         trader: 2,
         litres: 1,
-        number: 3,
+        number: Some(3),
     },
     Entry {
         metered: 0,
         trader: 1,
         litres: 1_000_000_001,
-        number: 6,
+        number: Some(6),
     },
     Entry {
         metered: 999_999_999,
         trader: 1,
         litres: 2,
-        number: 24,
+        number: Some(24),
     },
     Entry {
         metered: 999_999_999,
         trader: 1,
         litres: 1,
-        number: 0,
+        number: None,
     },
     Entry {
         metered: 0,
         trader: 2,
         litres: 1_000_000_001,
-        number: 3,
+        number: Some(3),
     },
     Entry {
         metered: 1,
         trader: 1,
         litres: 1_000_000_001,
-        number: 6,
+        number: Some(6),
     },
 ];
 
@@ -112,19 +112,19 @@ static BY_ANOTHER: [Entry; 3] = [
         metered: 5,
         trader: 0,
         litres: 1,
-        number: 20,
+        number: Some(20),
     },
     Entry {
         metered: 1_000_000_000,
         trader: 0,
         litres: 1,
-        number: 20,
+        number: Some(20),
     },
     Entry {
         metered: 5,
         trader: 0,
         litres: 1_000_000_001,
-        number: 6,
+        number: Some(6),
     },
 ];
 

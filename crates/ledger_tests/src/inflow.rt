@@ -5,12 +5,12 @@ use crate::station::two_traders;
 use ledger::{Ledger, Refused};
 use std::test::Fail;
 
-// An inflow after so much was metered, and the number of its refusal, 0 for none.
+// An inflow after so much was metered, and the number of its refusal, if any.
 struct Inflow {
     metered: u64,
     litres: u64,
     rate: u32,
-    number: u8,
+    number: Option<u8>,
 }
 
 // Takes an inflow.
@@ -21,10 +21,10 @@ fn taken(ledger: &mut Ledger, case: &Inflow) -> Result<Outcome, Fail> {
     match taking(ledger, day, case.litres, case.rate) {
         Ok(measured) => {
             end_measured(ledger, measured);
-            Ok(Outcome::new(0, before, ledger))
+            Ok(Outcome::new(None, before, ledger))
         }
         Err(Refused { why, given }) => {
-            let outcome = Outcome::new(why.number(), before, ledger);
+            let outcome = Outcome::new(Some(why.number()), before, ledger);
             end_open(ledger, given);
             Ok(outcome)
         }
@@ -43,11 +43,11 @@ fn by_another(
     match taking(ledger, day, litres, rate) {
         Ok(measured) => {
             end_measured(ledger, measured);
-            Ok(Outcome::new(0, before, ledger))
+            Ok(Outcome::new(None, before, ledger))
         }
         Err(Refused { why, given }) => {
             end_open(other, given);
-            Ok(Outcome::new(why.number(), before, ledger))
+            Ok(Outcome::new(Some(why.number()), before, ledger))
         }
     }
 }
@@ -58,61 +58,61 @@ static INFLOWS: [Inflow; 10] = [
         metered: 0,
         litres: 1_000_000_001,
         rate: 0,
-        number: 6,
+        number: Some(6),
     },
     Inflow {
         metered: 0,
         litres: 1_000_000,
         rate: 1_000_001,
-        number: 6,
+        number: Some(6),
     },
     Inflow {
         metered: 0,
         litres: 1_000_000_000,
         rate: 1_000_000,
-        number: 0,
+        number: None,
     },
     Inflow {
         metered: 380_000,
         litres: 379_999,
         rate: 0,
-        number: 25,
+        number: Some(25),
     },
     Inflow {
         metered: 380_000,
         litres: 387_754,
         rate: 20_000,
-        number: 25,
+        number: Some(25),
     },
     Inflow {
         metered: 380_000,
         litres: 387_755,
         rate: 20_000,
-        number: 0,
+        number: None,
     },
     Inflow {
         metered: 49,
         litres: 49,
         rate: 20_000,
-        number: 0,
+        number: None,
     },
     Inflow {
         metered: 49,
         litres: 50,
         rate: 20_000,
-        number: 0,
+        number: None,
     },
     Inflow {
         metered: 50,
         litres: 50,
         rate: 20_000,
-        number: 25,
+        number: Some(25),
     },
     Inflow {
         metered: 380_000,
         litres: 1_000,
         rate: 1_000_001,
-        number: 6,
+        number: Some(6),
     },
 ];
 

@@ -1,4 +1,5 @@
-// Tests of the ledger's calls: each refusal once, with ledger and sheets seen before and after, and days worked out by hand.
+// Tests of the ledger's calls: each refusal once, with ledger and sheets seen before and after, and days and bookings worked out by
+// hand.
 #![tactic(auto)]
 
 #[cfg(test)]
@@ -15,6 +16,8 @@ mod inflow;
 mod open;
 #[cfg(test)]
 mod quantity;
+#[cfg(test)]
+mod readings;
 #[cfg(test)]
 mod seen;
 #[cfg(test)]

@@ -19,9 +19,9 @@ fn opening(ledger: &mut Ledger, temperature: i16, season: u8) -> Outcome {
     }) {
         Ok(day) => {
             end_open(ledger, day);
-            Outcome::new(0, before, ledger)
+            Outcome::new(None, before, ledger)
         }
-        Err(why) => Outcome::new(why.number(), before, ledger),
+        Err(why) => Outcome::new(Some(why.number()), before, ledger),
     }
 }
 
@@ -36,7 +36,7 @@ fn opening_beside(ledger: &mut Ledger, day: &OpenDay, temperature: i16) -> Outco
         season: 1,
     }) {
         Ok(_) => unreachable(),
-        Err(why) => Outcome::new(why.number(), before, ledger),
+        Err(why) => Outcome::new(Some(why.number()), before, ledger),
     }
 }
 

@@ -9,13 +9,13 @@ fn open_quantities(rt: HostRuntime) -> Result<(), Fail> {
     let mut sheet = [Point::UNUSED; 3];
     let ledger = two_points(&mut sheet)?;
     sheet[0].open_sum = 5_000_000_000_000;
-    assert!(rt; number_of(ledger.open_quantity(&[Point::UNUSED; 1], 0)) == 1);
-    assert!(rt; number_of(ledger.open_quantity(&sheet, 2)) == 3);
-    assert!(rt; number_of(ledger.open_quantity(&[Point::UNUSED; 1], 2)) == 1);
+    assert!(rt; number_of(ledger.open_quantity(&[Point::UNUSED; 1], 0)) == Some(1));
+    assert!(rt; number_of(ledger.open_quantity(&sheet, 2)) == Some(3));
+    assert!(rt; number_of(ledger.open_quantity(&[Point::UNUSED; 1], 2)) == Some(1));
     assert!(rt; ledger.open_quantity(&sheet, 0).unwrap_or(1) == 5_000_000_000_000);
     sheet[0].open_sum = 5_000_000_000_001;
-    assert!(rt; number_of(ledger.open_quantity(&sheet, 0)) == 11);
-    assert!(rt; number_of(ledger.open_quantity(&sheet, 2)) == 3);
+    assert!(rt; number_of(ledger.open_quantity(&sheet, 0)) == Some(11));
+    assert!(rt; number_of(ledger.open_quantity(&sheet, 2)) == Some(3));
     assert!(rt; ledger.open_quantity(&sheet, 1).unwrap_or(1) == 0);
     Ok(())
 }
@@ -23,8 +23,8 @@ fn open_quantities(rt: HostRuntime) -> Result<(), Fail> {
 #[test]
 fn a_sheet_too_long(rt: HostRuntime) -> Result<(), Fail> {
     let ledger = two_points(&mut [Point::UNUSED; 2])?;
-    assert!(rt; number_of(ledger.open_quantity(&[Point::UNUSED; 4097], 0)) == 1);
-    assert!(rt; number_of(ledger.open_quantity(&[Point::UNUSED; 4096], 0)) == 0);
+    assert!(rt; number_of(ledger.open_quantity(&[Point::UNUSED; 4097], 0)) == Some(1));
+    assert!(rt; number_of(ledger.open_quantity(&[Point::UNUSED; 4096], 0)) == None);
     Ok(())
 }
 
@@ -32,7 +32,7 @@ fn a_sheet_too_long(rt: HostRuntime) -> Result<(), Fail> {
 #[test]
 fn no_such_trader(rt: HostRuntime) -> Result<(), Fail> {
     let ledger = two_points(&mut [Point::UNUSED; 2])?;
-    assert!(rt; number_of(ledger.account(2)) == 3 && number_of(ledger.metered(2)) == 3);
-    assert!(rt; number_of(ledger.account(1)) == 0 && number_of(ledger.metered(1)) == 0);
+    assert!(rt; number_of(ledger.account(2)) == Some(3) && number_of(ledger.metered(2)) == Some(3));
+    assert!(rt; number_of(ledger.account(1)) == None && number_of(ledger.metered(1)) == None);
     Ok(())
 }

@@ -33,6 +33,31 @@ impl Seen {
         }
     }
 
+    // The same after so many readings.
+    pub(crate) fn with_readings(self, readings: u32) -> Seen {
+        Seen {
+            counts: Counts {
+                readings,
+                ..self.counts
+            },
+            ..self
+        }
+    }
+
+    // The same after one booking, which moved so much from the distributor to a trader.
+    pub(crate) fn with_booking(self, account: [i64; 2], correction: i64) -> Seen {
+        Seen {
+            counts: Counts {
+                bookings: 1,
+                ..self.counts
+            },
+            account,
+            correction,
+            accounts: i128::from(account[0]) + i128::from(account[1]),
+            ..self
+        }
+    }
+
     // The same but for the number of days opened.
     pub(crate) fn with_opened(self, opened: u32) -> Seen {
         Seen {
@@ -45,15 +70,15 @@ impl Seen {
     }
 }
 
-// How a call was answered: the number of its refusal, 0 where it was accepted, and whether the ledger stayed as it was.
+// How a call was answered: the number of its refusal, if it was refused, and whether the ledger stayed as it was.
 #[derive(Clone, Copy)]
 pub(crate) struct Outcome {
-    pub(crate) number: u8,
+    pub(crate) number: Option<u8>,
     pub(crate) unchanged: bool,
 }
 
 impl Outcome {
-    pub(crate) fn new(number: u8, before: Seen, ledger: &Ledger) -> Outcome {
+    pub(crate) fn new(number: Option<u8>, before: Seen, ledger: &Ledger) -> Outcome {
         Outcome {
             number,
             unchanged: Seen::of(ledger) == before,
@@ -61,28 +86,24 @@ impl Outcome {
     }
 
     pub(crate) fn accepted(self) -> bool {
-        self.number == 0
+        self.number.is_none()
     }
 
     // As a refusal of that number has to be: the ledger stayed as it was.
     pub(crate) fn refused(self, number: u8) -> bool {
-        self.number == number && self.unchanged
+        self.number == Some(number) && self.unchanged
     }
 
-    // Whether the call was refused by this number, or accepted where it is 0.
-    pub(crate) fn is(self, number: u8) -> bool {
-        if number == 0 {
-            self.accepted()
-        } else {
-            self.refused(number)
-        }
+    // Whether the call was refused by this number, or accepted where there is none.
+    pub(crate) fn is(self, number: Option<u8>) -> bool {
+        self.number == number && (self.accepted() || self.unchanged)
     }
 }
 
-// The number of an answer, 0 where it is none of a refusal.
-pub(crate) fn number_of<T: Drop>(answer: Result<T, Refusal>) -> u8 {
+// The number of the refusal, if it is one.
+pub(crate) fn number_of<T: Drop>(answer: Result<T, Refusal>) -> Option<u8> {
     match answer {
-        Ok(_) => 0,
-        Err(why) => why.number(),
+        Ok(_) => None,
+        Err(why) => Some(why.number()),
     }
 }

@@ -19,9 +19,9 @@ fn sharing<P: Profile>(
     let day = measured(ledger, [0, 0], 1_000_000, 20_000)?;
     let before = Seen::of(ledger);
     match sharing_out(ledger, day, sheet, profile, &Running, uses, shares) {
-        Ok(_) => Ok(Outcome::new(0, before, ledger)),
+        Ok(_) => Ok(Outcome::new(None, before, ledger)),
         Err(Refused { why, given }) => {
-            let outcome = Outcome::new(why.number(), before, ledger);
+            let outcome = Outcome::new(Some(why.number()), before, ledger);
             end_measured(ledger, given);
             Ok(outcome)
         }
@@ -35,14 +35,14 @@ fn even(factor: u32) -> Result<EvenProfile, Fail> {
     }
 }
 
-// The number of the refusal, 0 for none, where the station of two points is handed these sheets. A refusal has to leave them.
+// The number of the refusal, if any, where the station of two points is handed these sheets. A refusal has to leave them.
 fn tried<P: Profile, const N: usize, const U: usize, const S: usize>(
     rt: &impl Abort,
     sheet: [Point; N],
     uses: [u64; U],
     shares: [u64; S],
     profile: &P,
-) -> Result<u8, Fail> {
+) -> Result<Option<u8>, Fail> {
     let mut ledger = two_points(&mut [Point::UNUSED; 3])?;
     let mut rows = sheet;
     let mut weights = uses;
@@ -57,10 +57,10 @@ fn tried<P: Profile, const N: usize, const U: usize, const S: usize>(
 #[test]
 fn point_sheets_of_a_wrong_length(rt: HostRuntime) -> Result<(), Fail> {
     let profile = even(764_445)?;
-    assert!(rt; tried(&rt, [ROW; 1], [7; 3], [8; 3], &profile)? == 1);
-    assert!(rt; tried(&rt, [ROW; 4097], [7; 3], [8; 3], &profile)? == 1);
-    assert!(rt; tried(&rt, [ROW; 4096], [7; 3], [8; 3], &profile)? == 0);
-    assert!(rt; tried(&rt, [ROW; 1], [7; 1], [8; 3], &profile)? == 1);
+    assert!(rt; tried(&rt, [ROW; 1], [7; 3], [8; 3], &profile)? == Some(1));
+    assert!(rt; tried(&rt, [ROW; 4097], [7; 3], [8; 3], &profile)? == Some(1));
+    assert!(rt; tried(&rt, [ROW; 4096], [7; 3], [8; 3], &profile)? == None);
+    assert!(rt; tried(&rt, [ROW; 1], [7; 1], [8; 3], &profile)? == Some(1));
     Ok(())
 }
 
@@ -68,10 +68,10 @@ fn point_sheets_of_a_wrong_length(rt: HostRuntime) -> Result<(), Fail> {
 #[test]
 fn work_sheets_too_short(rt: HostRuntime) -> Result<(), Fail> {
     let profile = even(764_445)?;
-    assert!(rt; tried(&rt, SHEET, [7; 1], [8; 3], &profile)? == 2);
-    assert!(rt; tried(&rt, SHEET, [7; 3], [8; 1], &profile)? == 2);
-    assert!(rt; tried(&rt, SHEET, [7; 2], [8; 2], &profile)? == 0);
-    assert!(rt; tried(&rt, [FOREIGN; 3], [7; 1], [8; 3], &profile)? == 2);
+    assert!(rt; tried(&rt, SHEET, [7; 1], [8; 3], &profile)? == Some(2));
+    assert!(rt; tried(&rt, SHEET, [7; 3], [8; 1], &profile)? == Some(2));
+    assert!(rt; tried(&rt, SHEET, [7; 2], [8; 2], &profile)? == None);
+    assert!(rt; tried(&rt, [FOREIGN; 3], [7; 1], [8; 3], &profile)? == Some(2));
     Ok(())
 }
 
@@ -131,7 +131,7 @@ static FOREIGNERS: [Point; 12] = [
 ];
 
 // What a share-out says where the second row is this one.
-fn beside(rt: &impl Abort, row: Point) -> Result<u8, Fail> {
+fn beside(rt: &impl Abort, row: Point) -> Result<Option<u8>, Fail> {
     let profile = even(764_445)?;
     tried(rt, [ROW, row, Point::UNUSED], [7; 3], [8; 3], &profile)
 }
@@ -139,7 +139,7 @@ fn beside(rt: &impl Abort, row: Point) -> Result<u8, Fail> {
 #[test]
 fn rows_of_another_ledger(rt: HostRuntime) -> Result<(), Fail> {
     for row in &FOREIGNERS {
-        assert!(rt; beside(&rt, *row)? == 11);
+        assert!(rt; beside(&rt, *row)? == Some(11));
     }
     Ok(())
 }
@@ -152,9 +152,9 @@ fn slips_and_full_sums(rt: HostRuntime) -> Result<(), Fail> {
         period_sum: 39_990_000_000,
         ..SECOND
     };
-    assert!(rt; beside(&rt, Point { slip: 1, ..SECOND })? == 30);
-    assert!(rt; beside(&rt, Point { slip: 1, ..FOREIGN })? == 11);
-    assert!(rt; beside(&rt, full)? == 0);
+    assert!(rt; beside(&rt, Point { slip: 1, ..SECOND })? == Some(30));
+    assert!(rt; beside(&rt, Point { slip: 1, ..FOREIGN })? == Some(11));
+    assert!(rt; beside(&rt, full)? == None);
     Ok(())
 }
 
@@ -169,13 +169,13 @@ fn a_place_not_used(rt: HostRuntime) -> Result<(), Fail> {
             [7; 3],
             [8; 3],
             &profile,
-        )? == 0
+        )? == None
     );
     Ok(())
 }
 
 // The number of the refusal where a ledger between days shares out another ledger's day. It has to leave all sheets.
-fn another_day(rt: &impl Abort, sheet: [Point; 3]) -> Result<u8, Fail> {
+fn another_day(rt: &impl Abort, sheet: [Point; 3]) -> Result<Option<u8>, Fail> {
     let mut ledger = two_points(&mut [Point::UNUSED; 3])?;
     let mut other = two_points(&mut [Point::UNUSED; 3])?;
     let profile = even(764_445)?;
@@ -193,10 +193,10 @@ fn another_day(rt: &impl Abort, sheet: [Point; 3]) -> Result<u8, Fail> {
         &mut uses,
         &mut shares,
     ) {
-        Ok(_) => 0,
+        Ok(_) => None,
         Err(Refused { why, given }) => {
             end_measured(&mut other, given);
-            why.number()
+            Some(why.number())
         }
     };
     assert!(rt; Outcome::new(number, before, &ledger).unchanged && rows == sheet);
@@ -207,9 +207,9 @@ fn another_day(rt: &impl Abort, sheet: [Point; 3]) -> Result<u8, Fail> {
 // A foreign row is told before a foreign day, and that before an open slip.
 #[test]
 fn another_ledger_s_day(rt: HostRuntime) -> Result<(), Fail> {
-    assert!(rt; another_day(&rt, SHEET)? == 20);
-    assert!(rt; another_day(&rt, [Point { slip: 1, ..ROW }, SECOND, Point::UNUSED])? == 20);
-    assert!(rt; another_day(&rt, [ROW, FOREIGN, Point::UNUSED])? == 11);
+    assert!(rt; another_day(&rt, SHEET)? == Some(20));
+    assert!(rt; another_day(&rt, [Point { slip: 1, ..ROW }, SECOND, Point::UNUSED])? == Some(20));
+    assert!(rt; another_day(&rt, [ROW, FOREIGN, Point::UNUSED])? == Some(11));
     Ok(())
 }
 
@@ -221,7 +221,7 @@ fn a_segment_not_served(rt: HostRuntime) -> Result<(), Fail> {
         ..SECOND
     };
     let profile = TableProfile::new();
-    assert!(rt; tried(&rt, [ROW, third, Point::UNUSED], [7; 3], [8; 3], &profile)? == 31);
+    assert!(rt; tried(&rt, [ROW, third, Point::UNUSED], [7; 3], [8; 3], &profile)? == Some(31));
     assert!(rt;
         tried(
             &rt,
@@ -229,7 +229,7 @@ fn a_segment_not_served(rt: HostRuntime) -> Result<(), Fail> {
             [7; 3],
             [8; 3],
             &profile,
-        )? == 30
+        )? == Some(30)
     );
     Ok(())
 }

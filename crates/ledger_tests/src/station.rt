@@ -33,15 +33,8 @@ pub(crate) const ROW: Point = Point {
 // The second trader's point uses half as much.
 pub(crate) const SECOND: Point = Point {
     trader: 1,
-    segment: 0,
-    digits: 5,
-    litres_per_unit: 1000,
-    reading: 99_990,
     scale_factor: 500_000,
-    open_sum: 0,
-    period_sum: 0,
-    slip: 0,
-    kept_reading: 0,
+    ..ROW
 };
 
 pub(crate) const SHEET: [Point; PLACES] = [ROW, SECOND, Point::UNUSED];

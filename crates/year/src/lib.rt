@@ -33,7 +33,7 @@ pub fn totals(ledger: &Ledger, _sheet: &[Point]) -> Balance
     let accounts = ledger.accounts();
     let correction = ledger.correction();
     Balance {
-        inflow: loss as i128 + accounts + correction as i128,
+        inflow: i128::from(loss) + accounts + i128::from(correction),
         loss,
         accounts,
         correction,

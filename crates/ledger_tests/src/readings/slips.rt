@@ -1,6 +1,6 @@
 // Slips for the tests. A slip cannot be let go, so each function here ends the slip that it is handed, or says how it can be ended.
 ghost use Rattle.std.specs.Prelude.{◌≡◌, IfOk, IfErr};
-ghost use Rattle.reading_tests.specs.Slips.{Endable};
+ghost use Rattle.ledger_tests.specs.Slips.{Endable};
 
 use crate::station::ROW;
 use ledger::{Ledger, Point, Refused, Slip};

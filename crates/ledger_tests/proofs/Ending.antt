@@ -9,7 +9,7 @@ use Rattle.ledger.specs.Grounds.{answered, unless}
 use Rattle.ledger.specs.Readings.{one_more_reading, read_fault, read_answer, read_book}
 use Rattle.ledger.proofs.AcceptedReadings.{reads}
 use Rattle.ledger.proofs.Grounds.{by_option, by_unless}
-use Rattle.reading_tests.specs.Slips.{Endable}
+use Rattle.ledger_tests.specs.Slips.{Endable}
 
 -- what a call leaves, accepted or refused
 pub stays : {A : Type 0} (π : Book → A) (f : Option Refusal) (new l b : Book) → b ≡ unless f new l → π new ≡ π l → π b ≡ π l

@@ -2,9 +2,10 @@
 // ledger's own.
 ghost use Rattle.std.specs.Prelude.{◌≡◌};
 
+use crate::readings::slips::{Call, end, ended, ending, reading};
+use crate::readings::station::{SECOND, two_points};
 use crate::seen::Seen;
-use crate::slips::{Call, end, ended, ending, reading};
-use crate::station::{ROW, SECOND, two_points};
+use crate::station::ROW;
 use ledger::{Ledger, Point, Refused};
 use refusals::Refusal;
 use std::test::Fail;
@@ -13,9 +14,9 @@ use std::test::Fail;
 #[derive(Debug, Drop)]
 struct Changed;
 
-// The number of the refusal where the slip of another ledger's first reading is brought to this one, 0 for none. A refusal has to
+// The number of the refusal where the slip of another ledger's first reading is brought to this one, if any. A refusal has to
 // leave ledger and sheet.
-fn brought(ledger: &mut Ledger, sheet: &mut [Point; 2], call: Call) -> Result<u8, Fail>
+fn brought(ledger: &mut Ledger, sheet: &mut [Point; 2], call: Call) -> Result<Option<u8>, Fail>
     ensures { ledger.new.book.counts.points ≡ ledger.old.book.counts.points }
 {
     let mut other = two_points()?;
@@ -23,13 +24,13 @@ fn brought(ledger: &mut Ledger, sheet: &mut [Point; 2], call: Call) -> Result<u8
     let before = Seen::of(ledger);
     let rows = *sheet;
     match ending(ledger, sheet, theirs, call) {
-        Ok(_) => Ok(0),
+        Ok(_) => Ok(None),
         Err(Refused { why, given }) => {
             end(&other, given);
             if Seen::of(ledger) != before || *sheet != rows {
                 return Err(Changed)?;
             }
-            Ok(why.number())
+            Ok(Some(why.number()))
         }
     }
 }
@@ -56,9 +57,9 @@ fn another_number(rt: HostRuntime) -> Result<(), Fail> {
     let mut sheet = [Point { slip: 2, ..KEPT }, SECOND];
     let slip = reading(&mut ledger, &mut sheet, 1, 15)?;
     ended(&mut ledger, &mut sheet, slip, Call::Withdraw)?;
-    assert!(rt; brought(&mut ledger, &mut sheet, Call::Book)? == 21);
-    assert!(rt; brought(&mut ledger, &mut sheet, Call::HandOver(1))? == 21);
-    assert!(rt; brought(&mut ledger, &mut sheet, Call::Withdraw)? == 21);
+    assert!(rt; brought(&mut ledger, &mut sheet, Call::Book)? == Some(21));
+    assert!(rt; brought(&mut ledger, &mut sheet, Call::HandOver(1))? == Some(21));
+    assert!(rt; brought(&mut ledger, &mut sheet, Call::Withdraw)? == Some(21));
     Ok(())
 }
 
@@ -72,7 +73,7 @@ fn the_same_number_and_point(rt: HostRuntime) -> Result<(), Fail> {
     let own = reading(&mut ledger, &mut sheet, 0, 15)?;
     let theirs = brought(&mut ledger, &mut sheet, Call::Book);
     let late = ended(&mut ledger, &mut sheet, own, Call::Book);
-    assert!(rt; theirs? == 0 && refused(late, 21));
+    assert!(rt; theirs? == None && refused(late, 21));
     let after = before.with_readings(1).with_booking([25_000, 0], -25_000);
     assert!(rt; Seen::of(&ledger) == after && sheet == [Point { reading: 15, ..ROW }, SECOND]);
     Ok(())
@@ -84,8 +85,10 @@ fn the_same_number_and_point(rt: HostRuntime) -> Result<(), Fail> {
 fn more_bookings_than_readings(rt: HostRuntime) -> Result<(), Fail> {
     let mut ledger = two_points()?;
     let mut sheet = [KEPT, SECOND];
-    assert!(rt; brought(&mut ledger, &mut sheet, Call::Book)? == 21);
-    assert!(rt; brought(&mut ledger, &mut sheet, Call::HandOver(1))? == 21);
-    assert!(rt; brought(&mut ledger, &mut sheet, Call::Withdraw)? == 0 && sheet == [ROW, SECOND]);
+    assert!(rt; brought(&mut ledger, &mut sheet, Call::Book)? == Some(21));
+    assert!(rt; brought(&mut ledger, &mut sheet, Call::HandOver(1))? == Some(21));
+    assert!(rt;
+        brought(&mut ledger, &mut sheet, Call::Withdraw)? == None && sheet == [ROW, SECOND]
+    );
     Ok(())
 }

@@ -1,7 +1,7 @@
 use Rattle.std.proofs.Common.{sym, ◌∙◌, arith}
 use Rattle.ledger.proofs.HandedBack.{never}
 use Rattle.ledger.proofs.Withdrawals.{withdrawn}
-use Rattle.reading_tests.proofs.slips.end.Goals as goal
+use Rattle.ledger_tests.proofs.readings.slips.end.Goals as goal
 
 pub unreachable-requires : goal.unreachable-requires
 unreachable-requires c =

@@ -1,23 +1,28 @@
 // Bookings, hand-overs and withdrawals that are refused.
+use crate::readings::slips::{Call, end, ended, ending, reading};
+use crate::readings::station::{SECOND, three_points, two_points};
 use crate::seen::Seen;
-use crate::slips::{Call, end, ended, ending, reading};
-use crate::station::{ROW, SECOND, three_points, two_points};
+use crate::station::ROW;
 use ledger::{Point, Refused};
 use std::process::Abort;
 use std::test::Fail;
 
-// The number of the refusal where the slip of the first point's first reading is brought with this sheet, 0 for none. A refusal
+// The number of the refusal where the slip of the first point's first reading is brought with this sheet, if any. A refusal
 // has to leave ledger and sheet.
-fn tried<const N: usize>(rt: &impl Abort, call: Call, rows: [Point; N]) -> Result<u8, Fail> {
+fn tried<const N: usize>(
+    rt: &impl Abort,
+    call: Call,
+    rows: [Point; N],
+) -> Result<Option<u8>, Fail> {
     let mut ledger = two_points()?;
     let slip = reading(&mut ledger, &mut [ROW, SECOND], 0, 15)?;
     let before = Seen::of(&ledger);
     let mut sheet = rows;
     match ended(&mut ledger, &mut sheet, slip, call) {
-        Ok(_) => Ok(0),
+        Ok(_) => Ok(None),
         Err(why) => {
             assert!(rt; Seen::of(&ledger) == before && sheet == rows);
-            Ok(why.number())
+            Ok(Some(why.number()))
         }
     }
 }
@@ -27,18 +32,18 @@ fn past_the_points<const N: usize>(
     rt: &impl Abort,
     call: Call,
     rows: [Point; N],
-) -> Result<u8, Fail> {
+) -> Result<Option<u8>, Fail> {
     let mut ledger = two_points()?;
     let mut other = three_points()?;
     let slip = reading(&mut other, &mut [ROW, SECOND, ROW], 2, 15)?;
     let before = Seen::of(&ledger);
     let mut sheet = rows;
     match ending(&mut ledger, &mut sheet, slip, call) {
-        Ok(_) => Ok(0),
+        Ok(_) => Ok(None),
         Err(Refused { why, given }) => {
             end(&other, given);
             assert!(rt; Seen::of(&ledger) == before && sheet == rows);
-            Ok(why.number())
+            Ok(Some(why.number()))
         }
     }
 }
@@ -56,12 +61,12 @@ const NOBODYS: Point = Point { trader: 2, ..OPEN };
 
 const ANOTHER: Point = Point { slip: 2, ..OPEN };
 
-// A call with this first row, and the number of its refusal, 0 for none.
+// A call with this first row, and the number of its refusal, if any.
 #[derive(Clone, Copy)]
 struct Case {
     call: Call,
     row: Point,
-    number: u8,
+    number: Option<u8>,
 }
 
 // Each ground beside one that is told after it, where there is one. A withdrawal asks nothing of the row but its slip.
@@ -69,67 +74,67 @@ static CASES: [Case; 13] = [
     Case {
         call: Call::Book,
         row: Point { slip: 2, ..FOREIGN },
-        number: 11,
+        number: Some(11),
     },
     Case {
         call: Call::Book,
         row: Point { slip: 2, ..NOBODYS },
-        number: 11,
+        number: Some(11),
     },
     Case {
         call: Call::Book,
         row: ANOTHER,
-        number: 21,
+        number: Some(21),
     },
     Case {
         call: Call::Book,
         row: ROW,
-        number: 21,
+        number: Some(21),
     },
     Case {
         call: Call::Book,
         row: OPEN,
-        number: 0,
+        number: None,
     },
     Case {
         call: Call::HandOver(1),
         row: Point { slip: 2, ..FOREIGN },
-        number: 11,
+        number: Some(11),
     },
     Case {
         call: Call::HandOver(1),
         row: Point { slip: 2, ..NOBODYS },
-        number: 11,
+        number: Some(11),
     },
     Case {
         call: Call::HandOver(0),
         row: ANOTHER,
-        number: 21,
+        number: Some(21),
     },
     Case {
         call: Call::HandOver(0),
         row: OPEN,
-        number: 29,
+        number: Some(29),
     },
     Case {
         call: Call::HandOver(1),
         row: OPEN,
-        number: 0,
+        number: None,
     },
     Case {
         call: Call::Withdraw,
         row: ANOTHER,
-        number: 21,
+        number: Some(21),
     },
     Case {
         call: Call::Withdraw,
         row: ROW,
-        number: 21,
+        number: Some(21),
     },
     Case {
         call: Call::Withdraw,
         row: FOREIGN,
-        number: 0,
+        number: None,
     },
 ];
 
@@ -144,19 +149,19 @@ fn rows_and_slips(rt: HostRuntime) -> Result<(), Fail> {
 // A sheet too short or too long, told before a trader or a row.
 #[test]
 fn sheets_of_a_wrong_length(rt: HostRuntime) -> Result<(), Fail> {
-    assert!(rt; tried(&rt, Call::Book, [FOREIGN; 1])? == 1);
-    assert!(rt; tried(&rt, Call::Book, [OPEN; 4097])? == 1);
-    assert!(rt; tried(&rt, Call::HandOver(2), [OPEN; 1])? == 1);
-    assert!(rt; tried(&rt, Call::Withdraw, [ANOTHER; 1])? == 1);
+    assert!(rt; tried(&rt, Call::Book, [FOREIGN; 1])? == Some(1));
+    assert!(rt; tried(&rt, Call::Book, [OPEN; 4097])? == Some(1));
+    assert!(rt; tried(&rt, Call::HandOver(2), [OPEN; 1])? == Some(1));
+    assert!(rt; tried(&rt, Call::Withdraw, [ANOTHER; 1])? == Some(1));
     Ok(())
 }
 
 // No such trader is told before no such point, and that before a row.
 #[test]
 fn no_such_trader_or_point(rt: HostRuntime) -> Result<(), Fail> {
-    assert!(rt; past_the_points(&rt, Call::HandOver(2), [OPEN, SECOND, OPEN])? == 3);
-    assert!(rt; past_the_points(&rt, Call::HandOver(1), [FOREIGN; 3])? == 4);
-    assert!(rt; past_the_points(&rt, Call::Book, [FOREIGN; 3])? == 4);
-    assert!(rt; past_the_points(&rt, Call::Withdraw, [ANOTHER; 3])? == 4);
+    assert!(rt; past_the_points(&rt, Call::HandOver(2), [OPEN, SECOND, OPEN])? == Some(3));
+    assert!(rt; past_the_points(&rt, Call::HandOver(1), [FOREIGN; 3])? == Some(4));
+    assert!(rt; past_the_points(&rt, Call::Book, [FOREIGN; 3])? == Some(4));
+    assert!(rt; past_the_points(&rt, Call::Withdraw, [ANOTHER; 3])? == Some(4));
     Ok(())
 }

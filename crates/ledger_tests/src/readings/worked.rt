@@ -3,11 +3,13 @@ ghost use Rattle.std.specs.Prelude.{◌≡◌, true};
 ghost use Rattle.ledger.specs.Days.{is_measured};
 
 use crate::days::{end_measured, measured, sharing_out};
+use crate::readings::slips::{Call, ended, reading};
+use crate::readings::station::{SECOND, two_points};
 use crate::seen::Seen;
-use crate::slips::{Call, ended, reading};
-use crate::station::{ROW, SECOND, two_points};
+use crate::station::ROW;
 use ledger::{Ledger, MeasuredDay, Point, Refused};
 use profiles::EvenProfile;
+use shares::Running;
 use std::test::Fail;
 
 // A row and the reading of its dial; the correction that its booking has to give, what the distributor's correction account then
@@ -155,7 +157,15 @@ fn handed_over_within(
         Ok(slip) => ended(ledger, sheet, slip, Call::HandOver(1)),
         Err(why) => Err(why),
     };
-    match sharing_out(ledger, day, sheet, profile) {
+    match sharing_out(
+        ledger,
+        day,
+        sheet,
+        profile,
+        &Running,
+        &mut [0; 2],
+        &mut [0; 2],
+    ) {
         Ok(_) => Ok(told?),
         Err(Refused { why, given }) => {
             end_measured(ledger, given);
@@ -178,7 +188,7 @@ fn a_hand_over_within_a_day(rt: HostRuntime) -> Result<(), Fail> {
             ..SECOND
         },
     ];
-    let day = measured(&mut ledger, 980_000)?;
+    let day = measured(&mut ledger, [0, 0], 980_000, 0)?;
     assert!(rt; handed_over_within(&mut ledger, day, &mut sheet, &profile)? == -5_000);
     let share = Point {
         trader: 1,

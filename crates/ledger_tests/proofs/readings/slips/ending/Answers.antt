@@ -2,8 +2,8 @@ use Rattle.std.proofs.Common.{sym, refl, ◌∙◌}
 use Rattle.ledger.specs.declared.book.Book.{Book}
 use Rattle.ledger.specs.Readings.{book_fault, hand_fault, withdraw_fault}
 use Rattle.ledger.proofs.HandedBack.{same_token}
-use Rattle.reading_tests.proofs.Ending.{stays}
-use Rattle.reading_tests.proofs.slips.ending.Goals as goal
+use Rattle.ledger_tests.proofs.Ending.{stays}
+use Rattle.ledger_tests.proofs.readings.slips.ending.Goals as goal
 
 pub returns-in-Book : goal.returns-in-Book
 returns-in-Book c =

@@ -1,8 +1,8 @@
 use Rattle.std.proofs.Common.{refl}
 use Rattle.ledger.specs.declared.book.Book.{Book}
 use Rattle.ledger.specs.Readings.{read_fault}
-use Rattle.reading_tests.proofs.Ending.{made, stays}
-use Rattle.reading_tests.proofs.slips.reading.Goals as goal
+use Rattle.ledger_tests.proofs.Ending.{made, stays}
+use Rattle.ledger_tests.proofs.readings.slips.reading.Goals as goal
 
 pub returns : goal.returns
 returns c =

@@ -1,29 +1,30 @@
 // Reading points: what is refused, and what a withdrawn reading leaves.
+use crate::readings::slips::{Call, end, ended, reading};
+use crate::readings::station::{SECOND, two_points};
 use crate::seen::Seen;
-use crate::slips::{Call, end, ended, reading};
-use crate::station::{ROW, SECOND, two_points};
+use crate::station::ROW;
 use ledger::{Ledger, Point};
 use std::process::Abort;
 use std::test::Fail;
 
-// The number of the refusal where a point is read, 0 for none. A refusal has to leave ledger and sheet.
+// The number of the refusal where a point is read, if any. A refusal has to leave ledger and sheet.
 fn tried<const N: usize>(
     rt: &impl Abort,
     ledger: &mut Ledger,
     rows: [Point; N],
     point: usize,
     dial: u32,
-) -> Result<u8, Fail> {
+) -> Result<Option<u8>, Fail> {
     let before = Seen::of(ledger);
     let mut sheet = rows;
     match reading(ledger, &mut sheet, point, dial) {
         Ok(slip) => {
             end(ledger, slip);
-            Ok(0)
+            Ok(None)
         }
         Err(why) => {
             assert!(rt; Seen::of(ledger) == before && sheet == rows);
-            Ok(why.number())
+            Ok(Some(why.number()))
         }
     }
 }
@@ -38,13 +39,13 @@ fn readings_refused(rt: HostRuntime) -> Result<(), Fail> {
         ..ROW
     };
     let open = Point { slip: 1, ..ROW };
-    assert!(rt; tried(&rt, &mut ledger, [ROW; 1], 2, 15)? == 1);
-    assert!(rt; tried(&rt, &mut ledger, [ROW; 4097], 0, 15)? == 1);
-    assert!(rt; tried(&rt, &mut ledger, [foreign, SECOND, foreign], 2, 15)? == 4);
-    assert!(rt; tried(&rt, &mut ledger, [foreign, SECOND], 0, 1_000_000_000)? == 11);
-    assert!(rt; tried(&rt, &mut ledger, [open, SECOND], 0, 100_000)? == 7);
-    assert!(rt; tried(&rt, &mut ledger, [open, SECOND], 0, 99_999)? == 27);
-    assert!(rt; tried(&rt, &mut ledger, [ROW, foreign], 0, 99_999)? == 0);
+    assert!(rt; tried(&rt, &mut ledger, [ROW; 1], 2, 15)? == Some(1));
+    assert!(rt; tried(&rt, &mut ledger, [ROW; 4097], 0, 15)? == Some(1));
+    assert!(rt; tried(&rt, &mut ledger, [foreign, SECOND, foreign], 2, 15)? == Some(4));
+    assert!(rt; tried(&rt, &mut ledger, [foreign, SECOND], 0, 1_000_000_000)? == Some(11));
+    assert!(rt; tried(&rt, &mut ledger, [open, SECOND], 0, 100_000)? == Some(7));
+    assert!(rt; tried(&rt, &mut ledger, [open, SECOND], 0, 99_999)? == Some(27));
+    assert!(rt; tried(&rt, &mut ledger, [ROW, foreign], 0, 99_999)? == None);
     Ok(())
 }
 
@@ -65,8 +66,8 @@ fn no_reading_after_a_million(rt: HostRuntime) -> Result<(), Fail> {
         withdrawn(&mut ledger, &mut sheet)?;
     }
     assert!(rt; Seen::of(&ledger) == before.with_readings(1_000_000) && sheet == [ROW, SECOND]);
-    assert!(rt; tried(&rt, &mut ledger, sheet, 0, 15)? == 28);
-    assert!(rt; tried(&rt, &mut ledger, [Point { slip: 1, ..ROW }, SECOND], 0, 15)? == 27);
+    assert!(rt; tried(&rt, &mut ledger, sheet, 0, 15)? == Some(28));
+    assert!(rt; tried(&rt, &mut ledger, [Point { slip: 1, ..ROW }, SECOND], 0, 15)? == Some(27));
     Ok(())
 }
 
