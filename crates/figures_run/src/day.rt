@@ -156,11 +156,7 @@ fn point_line(page: &mut Page, name: &str, scale: u32, uses: u64, share: u64) ->
     page.end()
 }
 
-pub(crate) fn day_lines<R: ShareRule>(
-    page: &mut Page,
-    name: &str,
-    rule: &R,
-) -> anyhow::Result<()> {
+pub(crate) fn day_lines<R: ShareRule>(page: &mut Page, name: &str, rule: &R) -> anyhow::Result<()> {
     let Worked { told, uses, shares } = settle(rule)?;
     day_line(page, name, told)?;
     for ((scale, uses), share) in SCALE_FACTORS.iter().zip(&uses).zip(&shares) {

@@ -23,15 +23,11 @@ use std::collections::BTreeMap;
 
 const PLACES: usize = 4096;
 
-const MOST_PLACES: u32 = 65536;
-
 pub struct Player {
     heap: Global,
     station: Station,
     slips: Slips,
     sheets: Sheets,
-    // a `sheet` may still come
-    unset: bool,
     profiles: BTreeMap<Vec<u8>, Recipe>,
     // their names
     traders: Vec<Vec<u8>>,
@@ -62,7 +58,6 @@ impl Player {
             station: Station::new(first_day),
             slips: Slips::new(heap),
             sheets,
-            unset: true,
             profiles: BTreeMap::new(heap),
             traders: Vec::new(heap),
             measured: 0,
@@ -115,7 +110,11 @@ impl Player {
         let heap = self.heap;
         match call {
             Call::Sheet { places } => self.set_sheet(places, report),
-            Call::Table { name, .. } => self.add_profile(name, Recipe::table(heap, numbers), report),
+            Call::Table { name, .. } => self.add_profile(
+                name,
+                Recipe::table(heap, numbers),
+                report,
+            ),
             Call::Even { name, factor } => {
                 self.add_profile(name, Recipe::even(heap, factor), report)
             }
@@ -153,14 +152,7 @@ impl Player {
     fn set_sheet(&mut self, places: u32, report: &mut Report) -> Result<(), Trouble>
         ensures { self.new.station.ledger.book ≡ self.old.station.ledger.book }
     {
-        if !self.unset {
-            return Err(Trouble::SheetLate);
-        }
-        if places > MOST_PLACES {
-            return Err(Trouble::TooManyPlaces);
-        }
-        self.sheets = Sheets::new(self.heap, places as usize)?;
-        self.unset = false;
+        self.sheets.set(self.heap, places)?;
         Ok(report.tell(Kind::Sheet, Ok(places), |report, places| {
             report.field("places", u64::from(places))
         })?)
@@ -235,7 +227,7 @@ impl Player {
     {
         let sheet = self.sheets.points.as_mut_slice();
         let told = self.station.admit_point(sheet, given);
-        self.unset = false;
+        self.sheets.settled = true;
         Ok(report.tell(Kind::Point, told, |report, point| {
             report.number(point as u64)
         })?)
@@ -377,7 +369,6 @@ impl Player {
             mut station,
             slips,
             mut sheets,
-            unset: _,
             profiles: _,
             traders,
             measured: _,
@@ -404,7 +395,6 @@ impl Player {
             station,
             slips,
             mut sheets,
-            unset: _,
             profiles: _,
             traders: _,
             measured: _,

@@ -23,7 +23,7 @@ pub(crate) struct Layer {
 }
 
 // A profile is made anew for each share-out, from the sheets that were tested when it was named: a profile has no copy, and a layer
-// stands over one that it borrows.
+// takes over the profile below it. (Tried: a layer over a borrowed one; the check cannot state SEGMENTS of a type with a lifetime.)
 #[derive(Clone, Drop)]
 pub(crate) struct Recipe {
     base: Base,

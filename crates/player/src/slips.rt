@@ -71,10 +71,7 @@ impl Slips {
         requires room { vec_len self.old.open < vec_capacity self.old.open }
         requires made { Made slip }
     {
-        let place = match self.place(slip.point()) {
-            Ok(place) => place,
-            Err(place) => place,
-        };
+        let place = self.place(slip.point()).unwrap_or_else(|place| place);
         match self.open.insert(place, slip) {
             Ok(()) => {}
             Err(_) => unreachable(),

@@ -99,32 +99,31 @@ fn read_journal(rt: &HostRuntime, path: Option<&str>) -> anyhow::Result<Option<V
     }
 }
 
-// Plays the journal of a file, or of standard input: whether to its end.
-fn play_file(rt: &HostRuntime, path: Option<&str>, csv: bool) -> Result<bool, Stop> {
+// Plays the journal of a file, or of standard input.
+fn play_file(rt: &HostRuntime, path: Option<&str>, csv: bool) -> Result<ExitCode, Stop> {
     let Some(text) = read_journal(rt, path)? else {
-        return Ok(false);
+        return Ok(ExitCode::FAILURE);
     };
     match play(rt, path, text.as_slice(), csv)? {
-        Ok(()) => Ok(true),
+        Ok(()) => Ok(ExitCode::SUCCESS),
         Err(stopped) => {
             complain(rt, path, stopped)?;
-            Ok(false)
+            Ok(ExitCode::FAILURE)
         }
     }
 }
 
-// Whether all that was asked for was done.
-fn run(rt: &HostRuntime) -> Result<bool, Stop> {
+fn run(rt: &HostRuntime) -> Result<ExitCode, Stop> {
     match read_args(rt)? {
         Asked::Help => {
             rt.stdout().write_all(HELP.as_bytes())?;
-            Ok(true)
+            Ok(ExitCode::SUCCESS)
         }
         Asked::Wrong => {
             eprintln!(rt;
                 "station: one journal, or none for standard input; `station --help` says more"
             )?;
-            Ok(false)
+            Ok(ExitCode::FAILURE)
         }
         Asked::Play { csv, path } => play_file(rt, path.as_deref(), csv),
     }
@@ -132,8 +131,7 @@ fn run(rt: &HostRuntime) -> Result<bool, Stop> {
 
 fn main(rt: HostRuntime) -> ExitCode {
     match run(&rt) {
-        Ok(true) => ExitCode::SUCCESS,
-        Ok(false) => ExitCode::FAILURE,
+        Ok(code) => code,
         Err(Stop::Error(e)) => {
             let told: anyhow::Result<()> = Err(e);
             told.report(&rt)
