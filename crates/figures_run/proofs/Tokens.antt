@@ -16,15 +16,6 @@ use Rattle.ledger.proofs.Grounds.{by_unless}
 ok_err : {A B C : Type 0} (x : A) (y : B) → ◌≡◌ {A = Result A B} (Ok x) (Err y) → C
 ok_err x y e = let z : ◌≡◌ {A = ℕ} 0 1 = cc in absurd (let q : ⊥ = omega arith in q)
 
--- what holds of a call's new book and its answer holds after the call where it is accepted
-accepted : {A : Type 0} (P : Book → A → Type 0) (o : Option Refusal) (new old : Book) (x y : A) → P new x → answered o x ≡ Ok y → P (unless o new old) y
-accepted P None new old x y h e = let q : x ≡ y = cc in subst (P new) q h
-accepted P (Some w) new old x y h e = ok_err y w (sym e)
-
-passed : {A T : Type 0} (P : Book → A → Type 0) (o : Option Refusal) (new old : Book) (t : T) (x y : A) → P new x → handed_back o t x ≡ Ok y → P (unless o new old) y
-passed P None new old t x y h e = let q : x ≡ y = cc in subst (P new) q h
-passed P (Some w) new old t x y h e = ok_err y (record { why = w; given = t }) (sym e)
-
 -- what held of the book and the token before a call holds after it where it is refused
 handed : {A T : Type 0} (P : Book → T → Type 0) (o : Option Refusal) (new old : Book) (t : T) (x : A) (r : Refused T) → P old t → handed_back o t x ≡ Err r → P (unless o new old) r.given
 handed P None new old t x r h e = ok_err x r e
@@ -38,17 +29,9 @@ Open l day = is_open l.phase day.number ≡ true
 abbrev pub Measured : Book → MeasuredDay → Type 0
 Measured l day = is_measured l.phase day.number ≡ true
 
-pub opened : (l l' : Book) (t : ℤ) (s : ℕ) (res : Result OpenDay Refusal) (day : OpenDay) → res ≡ open_answer l t s → l' ≡ open_book l t s → res ≡ Ok day → Open l' day
-opened l l' t s res day a b e =
-    subst (λ (m : Book). Open m day) (sym b) (accepted Open (open_fault l t s) _ l _ day (eq-eqb _ _ refl) (sym a ∙ e))
-
 pub entered : (l l' : Book) (day : OpenDay) (t litres : ℕ) → Open l day → l' ≡ enter_book l day t litres → Open l' day
 entered l l' day t litres h b =
     subst (λ (m : Book). Open m day) (sym b) (by_unless (λ (m : Book). Open m day) (enter_fault l day t litres) _ l (λ _. h) h)
-
-pub measured : (l l' : Book) (day : OpenDay) (inflow rate : ℕ) (res : Result MeasuredDay (Refused OpenDay)) (m : MeasuredDay) → res ≡ inflow_answer l day inflow rate → l' ≡ inflow_book l day inflow rate → res ≡ Ok m → Measured l' m
-measured l l' day inflow rate res m a b e =
-    subst (λ (k : Book). Measured k m) (sym b) (passed Measured (inflow_fault l day inflow rate) _ l day _ m (eq-eqb _ _ refl) (sym a ∙ e))
 
 pub inflow_refused : (l l' : Book) (day : OpenDay) (inflow rate : ℕ) (res : Result MeasuredDay (Refused OpenDay)) (r : Refused OpenDay) → Open l day → res ≡ inflow_answer l day inflow rate → l' ≡ inflow_book l day inflow rate → res ≡ Err r → Open l' r.given
 inflow_refused l l' day inflow rate res r h a b e =

@@ -36,45 +36,71 @@ impl Draws {
     }
 }
 
-// The line of one rule.
-fn share_line<R: ShareRule>(
-    heap: Global,
-    page: &mut Page,
-    name: &str,
-    rule: &R,
+// A quantity to be shared by weights.
+#[derive(Drop)]
+struct Case<'a> {
     quantity: u64,
-    weights: &[u64],
-) -> anyhow::Result<()> {
-    let mut shares = vec![in heap; 0u64; weights.len()]?;
-    rule.share(quantity, weights, shares.as_mut_slice());
-    page.begin(name)?;
-    page.number(quantity)?;
-    page.numbers(weights)?;
-    page.colon()?;
-    page.numbers(shares.as_slice())?;
-    page.end()?;
-    Ok(())
+    weights: &'a [u64],
 }
 
-fn share_lines(
-    heap: Global,
-    page: &mut Page,
-    quantity: u64,
-    weights: &[u64],
-) -> anyhow::Result<()> {
-    share_line(heap, page, "running", &Running, quantity, weights)?;
-    share_line(heap, page, "largest", &LargestRemainder, quantity, weights)
+impl Case<'_> {
+    // The line of one rule.
+    fn line<R: ShareRule>(
+        &self,
+        heap: Global,
+        page: &mut Page,
+        name: &str,
+        rule: &R,
+    ) -> anyhow::Result<()> {
+        let mut shares = vec![in heap; 0u64; self.weights.len()]?;
+        rule.share(self.quantity, self.weights, shares.as_mut_slice());
+        page.begin(name)?;
+        page.number(self.quantity)?;
+        page.numbers(self.weights)?;
+        page.colon()?;
+        page.numbers(shares.as_slice())?;
+        page.end()?;
+        Ok(())
+    }
+
+    fn lines(&self, heap: Global, page: &mut Page) -> anyhow::Result<()> {
+        self.line(heap, page, "running", &Running)?;
+        self.line(heap, page, "largest", &LargestRemainder)
+    }
 }
+
+// Some small cases.
+const SMALL: [Case<'static>; 4] = [
+    Case {
+        quantity: 100,
+        weights: &[1, 1, 1],
+    },
+    Case {
+        quantity: 4,
+        weights: &[2, 3],
+    },
+    Case {
+        quantity: 7,
+        weights: &[5, 5, 5, 5],
+    },
+    Case {
+        quantity: 9,
+        weights: &[0, 0],
+    },
+];
 
 pub(crate) fn case_lines(heap: Global, page: &mut Page) -> anyhow::Result<()> {
     let mut draws = Draws { state: 2009 };
     for _ in 0..CASES {
         let weights = draws.weights(heap)?;
-        let quantity = draws.draw() % 1_000_000_001;
-        share_lines(heap, page, quantity, weights.as_slice())?;
+        let case = Case {
+            quantity: draws.draw() % 1_000_000_001,
+            weights: weights.as_slice(),
+        };
+        case.lines(heap, page)?;
     }
-    share_lines(heap, page, 100, &[1, 1, 1])?;
-    share_lines(heap, page, 4, &[2, 3])?;
-    share_lines(heap, page, 7, &[5, 5, 5, 5])?;
-    share_lines(heap, page, 9, &[0, 0])
+    for case in &SMALL {
+        case.lines(heap, page)?;
+    }
+    Ok(())
 }

@@ -3,12 +3,10 @@ ghost use Rattle.std.specs.Prelude.{◌≡◌, true, IfOk};
 ghost use Rattle.ledger.specs.Days.{is_open, is_measured};
 
 use crate::page::Page;
-use crate::refused::refused;
 use ledger::{Ledger, MeasuredDay, OpenDay, Particulars, Point, Refused, SharedOut};
 use profiles::{EvenProfile, Profile, Weather};
 use refusals::Refusal;
 use shares::ShareRule;
-use std::alloc::Global;
 use std::fmt;
 
 // 1 October 2009.
@@ -29,7 +27,7 @@ const DAY_FACTOR: u32 = 764_445;
 
 const SCALE_FACTORS: [u32; 2] = [1_000_000, 500_000];
 
-// Ends a day that is this ledger's.
+// Ends a day that is this ledger's. Open and measured days are ended apart: a trait over the two would have these same two bodies.
 fn end_open(ledger: &mut Ledger, day: OpenDay)
     requires { is_open ledger.old.book.phase day.number ≡ true }
 {
@@ -51,14 +49,14 @@ fn end_measured(ledger: &mut Ledger, day: MeasuredDay)
 // Admits a trader, and a point of his for each scale factor: in segment 0, then in 1.
 fn admit(ledger: &mut Ledger, points: &mut [Point]) -> Result<u32, Refusal> {
     let trader = ledger.admit_trader()?;
-    for segment in 0..2u32 {
+    for (segment, scale_factor) in (0u32..).zip(SCALE_FACTORS) {
         let given = Particulars {
             trader,
             segment,
             digits: 5,
             litres_per_unit: 1_000,
             reading: 0,
-            scale_factor: SCALE_FACTORS[segment as usize],
+            scale_factor,
         };
         ledger.admit_point(points, given)?;
     }
@@ -69,10 +67,8 @@ fn admit(ledger: &mut Ledger, points: &mut [Point]) -> Result<u32, Refusal> {
 fn measure(ledger: &mut Ledger, trader: u32) -> Result<MeasuredDay, Refusal>
     ensures { IfOk result (λ day. is_measured ledger.new.book.phase day.number ≡ true) }
 {
-    match ledger.open(WEATHER) {
-        Ok(day) => take_figures(ledger, day, trader),
-        Err(why) => Err(why),
-    }
+    let day = ledger.open(WEATHER)?;
+    take_figures(ledger, day, trader)
 }
 
 // Enters the trader's litres and takes the inflow.
@@ -80,17 +76,13 @@ fn take_figures(ledger: &mut Ledger, day: OpenDay, trader: u32) -> Result<Measur
     requires { is_open ledger.old.book.phase day.number ≡ true }
     ensures { IfOk result (λ measured. is_measured ledger.new.book.phase measured.number ≡ true) }
 {
-    match ledger.enter(&day, trader, METERED) {
-        Ok(()) => {}
-        Err(why) => {
-            end_open(ledger, day);
-            return Err(why);
-        }
+    if let Err(why) = ledger.enter(&day, trader, METERED) {
+        end_open(ledger, day);
+        return Err(why);
     }
     match ledger.take_inflow(day, INFLOW, LOSS_RATE) {
         Ok(measured) => Ok(measured),
-        Err(back) => {
-            let Refused { why, given } = back;
+        Err(Refused { why, given }) => {
             end_open(ledger, given);
             Err(why)
         }
@@ -111,28 +103,39 @@ fn share_day<P: Profile, R: ShareRule>(
 {
     match ledger.share_out(day, points, profile, rule, uses, shares) {
         Ok(told) => Ok(told),
-        Err(back) => {
-            let Refused { why, given } = back;
+        Err(Refused { why, given }) => {
             end_measured(ledger, given);
             Err(why)
         }
     }
 }
 
-// The whole day. The points' profile consumptions and shares are written over the two work sheets.
-fn settle<R: ShareRule>(
-    rule: &R,
-    uses: &mut [u64],
-    shares: &mut [u64],
-) -> Result<SharedOut, Refusal> {
+// What the day came to: what the share-out told, and each point's profile consumption and share.
+#[derive(Drop)]
+struct Worked {
+    told: SharedOut,
+    uses: [u64; 2],
+    shares: [u64; 2],
+}
+
+fn settle<R: ShareRule>(rule: &R) -> Result<Worked, Refusal> {
     let even = EvenProfile::new(DAY_FACTOR)?;
     let mut ledger = Ledger::new(FIRST_DAY);
     let mut points = [Point::UNUSED; 2];
+    let mut uses = [0; 2];
+    let mut shares = [0; 2];
     let trader = admit(&mut ledger, &mut points)?;
-    match measure(&mut ledger, trader) {
-        Ok(day) => share_day(&mut ledger, day, &mut points, &even, rule, uses, shares),
-        Err(why) => Err(why),
-    }
+    let day = measure(&mut ledger, trader)?;
+    let told = share_day(
+        &mut ledger,
+        day,
+        &mut points,
+        &even,
+        rule,
+        &mut uses,
+        &mut shares,
+    )?;
+    Ok(Worked { told, uses, shares })
 }
 
 fn day_line(page: &mut Page, name: &str, told: SharedOut) -> fmt::Result {
@@ -153,21 +156,11 @@ fn point_line(page: &mut Page, name: &str, scale: u32, uses: u64, share: u64) ->
     page.end()
 }
 
-pub(crate) fn day_lines<R: ShareRule>(
-    heap: Global,
-    page: &mut Page,
-    name: &str,
-    rule: &R,
-) -> anyhow::Result<()> {
-    let mut uses = [0u64; 2];
-    let mut shares = [0u64; 2];
-    match settle(rule, &mut uses, &mut shares) {
-        Ok(told) => {
-            day_line(page, name, told)?;
-            point_line(page, name, SCALE_FACTORS[0], uses[0], shares[0])?;
-            point_line(page, name, SCALE_FACTORS[1], uses[1], shares[1])?;
-            Ok(())
-        }
-        Err(why) => Err(refused(heap, why)),
+pub(crate) fn day_lines<R: ShareRule>(page: &mut Page, name: &str, rule: &R) -> anyhow::Result<()> {
+    let Worked { told, uses, shares } = settle(rule)?;
+    day_line(page, name, told)?;
+    for ((scale, uses), share) in SCALE_FACTORS.iter().zip(&uses).zip(&shares) {
+        point_line(page, name, *scale, *uses, *share)?;
     }
+    Ok(())
 }

@@ -7,7 +7,6 @@
 mod cases;
 mod day;
 mod page;
-mod refused;
 mod sheet;
 mod tells;
 
@@ -16,7 +15,6 @@ use cases::case_lines;
 use day::day_lines;
 use page::Page;
 use profiles::TableProfile;
-use refused::refused;
 use shares::{LargestRemainder, Running};
 use sheet::numbers_of;
 use std::io::Write;
@@ -28,15 +26,13 @@ fn listing(rt: &HostRuntime, path: &str) -> anyhow::Result<Page> {
     let heap = rt.alloc();
     let text = fs::read_to_string(rt, path)?;
     let mut table = TableProfile::new();
-    if let Err(why) = table.fill(numbers_of(heap, text.as_str())?.as_slice()) {
-        return Err(refused(heap, why));
-    }
+    table.fill(numbers_of(heap, text.as_str())?.as_slice())?;
     let mut page = Page::new(heap);
     table_lines(heap, &mut page, &table)?;
     layer_lines(heap, &mut page, table)?;
     case_lines(heap, &mut page)?;
-    day_lines(heap, &mut page, "running", &Running)?;
-    day_lines(heap, &mut page, "largest", &LargestRemainder)?;
+    day_lines(&mut page, "running", &Running)?;
+    day_lines(&mut page, "largest", &LargestRemainder)?;
     Ok(page)
 }
 

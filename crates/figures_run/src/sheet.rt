@@ -4,10 +4,8 @@ use std::alloc::Global;
 
 // A line without its comment.
 fn uncommented(line: &str) -> &str {
-    match line.split_once('#') {
-        Some((numbers, _comment)) => numbers,
-        None => line,
-    }
+    line.split_once('#')
+        .map_or(line, |(numbers, _comment)| numbers)
 }
 
 // Adds the numbers of a line, which is the given one of its text, to a sheet.
@@ -24,9 +22,7 @@ fn add_line(heap: Global, number: u64, line: &str, sheet: &mut Vec<u32>) -> anyh
 // The numbers of a text.
 pub(crate) fn numbers_of(heap: Global, text: &str) -> anyhow::Result<Vec<u32>> {
     let mut sheet = Vec::new(heap);
-    let mut number: u64 = 0;
-    for line in text.lines() {
-        number = number.saturating_add(1);
+    for (number, line) in (1u64..).zip(text.lines()) {
         add_line(heap, number, line, &mut sheet)?;
     }
     Ok(sheet)

@@ -9,13 +9,14 @@ both (Ok x) a b c s t first second =
     record {
       bytes = second.bytes ∙ (λ i. first.bytes i ++ t (first.form i)) ∙ append_assoc (vec_items a.bytes) s (t a.csv);
       form = second.form ∙ first.form;
+      line = second.line ∙ first.line;
     }
 both (Err e) a b c s t first second = tt
 
-pub grown : {E : Type 0} (r : Result Unit E) (b c : Report) (more : List ℕ) → vec_items c.bytes ≡ cond (is_ok r) (vec_items b.bytes ++ more) (vec_items b.bytes) → c.csv ≡ b.csv → IfOk r (λ _. Adds b c more)
-grown (Ok x) b c more e same = record { bytes = e; form = same }
-grown (Err x) b c more e same = tt
+pub grown : {E : Type 0} (r : Result Unit E) (b c : Report) (more : List ℕ) → vec_items c.bytes ≡ cond (is_ok r) (vec_items b.bytes ++ more) (vec_items b.bytes) → c.csv ≡ b.csv → c.line ≡ b.line → IfOk r (λ _. Adds b c more)
+grown (Ok x) b c more e same line = record { bytes = e; form = same; line = line }
+grown (Err x) b c more e same line = tt
 
-pub written : {E : Type 0} (r : Result Unit E) (b c : Report) (more : List ℕ) → IfOk r (λ _. vec_items c.bytes ≡ vec_items b.bytes ++ more) → c.csv ≡ b.csv → IfOk r (λ _. Adds b c more)
-written (Ok x) b c more e same = record { bytes = e; form = same }
-written (Err x) b c more e same = tt
+pub written : {E : Type 0} (r : Result Unit E) (b c : Report) (more : List ℕ) → IfOk r (λ _. vec_items c.bytes ≡ vec_items b.bytes ++ more) → c.csv ≡ b.csv → c.line ≡ b.line → IfOk r (λ _. Adds b c more)
+written (Ok x) b c more e same line = record { bytes = e; form = same; line = line }
+written (Err x) b c more e same line = tt

@@ -19,3 +19,4 @@ point_line csv line point consumption share =
 pub record Adds (was now : Report) (more : List ℕ) : Type 0 where
   pub bytes : vec_items now.bytes ≡ vec_items was.bytes ++ more
   pub form : now.csv ≡ was.csv
+  pub line : now.line ≡ was.line

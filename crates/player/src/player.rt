@@ -1,41 +1,35 @@
-// What a journal has set up beside the ledger, and the playing of its calls.
-ghost use Rattle.std.specs.Prelude.{◌≡◌, ◌<◌, true, false, IfOk, IfErr, vec_len};
-ghost use Rattle.ledger.specs.Days.{admit_book, point_book};
+// What a journal has set up, and the playing of its calls.
+ghost use Rattle.std.specs.Prelude.{◌≡◌, ◌<◌, false, IfOk, IfErr, vec_len};
+ghost use Rattle.ledger.specs.Accounts.{new_book};
+ghost use Rattle.ledger.specs.Days.{admit_book, point_book, open_book, enter_book, inflow_book};
 ghost use Rattle.player.specs.Playing.{Plays, of_day, of_slip};
+ghost use Rattle.player.specs.Running.{open_day, abandoned};
 
-use crate::recipe::{Layer, Recipe, test_layer};
+use crate::closing::{Closing, tell_open_slips};
+use crate::recipe::{Layer, Recipe};
 use crate::report::Report;
+use crate::sheets::Sheets;
 use crate::slips::Slips;
 use crate::station::Station;
 use crate::trouble::Trouble;
 use journal::call::Call;
 use journal::kind::{Kind, Rule};
-use ledger::{Ledger, Particulars, Point, SharedOut};
+use ledger::Particulars;
 use profiles::Weather;
 use refusals::Refusal;
 use shares::{LargestRemainder, Running, ShareRule};
 use std::alloc::{AllocError, Global};
-use year::totals;
+use std::collections::BTreeMap;
 
 const PLACES: usize = 4096;
 
-const MOST_PLACES: u32 = 65536;
-
-#[derive(Drop)]
-struct Named {
-    name: Vec<u8>,
-    recipe: Recipe,
-}
-
-#[derive(Drop)]
 pub struct Player {
     heap: Global,
-    sheet: Vec<Point>,
-    uses: Vec<u64>,
-    shares: Vec<u64>,
-    // a `sheet` may still come
-    unset: bool,
-    profiles: Vec<Named>,
+    station: Station,
+    slips: Slips,
+    sheets: Sheets,
+    profiles: BTreeMap<Vec<u8>, Recipe>,
+    // their names
     traders: Vec<Vec<u8>>,
     // of the day that was measured last, and of all days shared out
     measured: u64,
@@ -50,383 +44,87 @@ impl Player {
         first_day: u32,
         report: &mut Report,
     ) -> Result<Player, AllocError>
-        ensures { IfOk result (λ p. vec_len p.sheet ≡ 4096) }
+        ensures sheet { IfOk result (λ p. vec_len p.sheets.points ≡ 4096) }
+        ensures state { IfOk result (λ p. p.station.ledger.book ≡ new_book first_day) }
+        ensures none { IfOk result (λ p. vec_len p.slips.open ≡ 0) }
     {
-        tell_ledger(line, first_day, report)?;
-        let uses = vec![in heap; 0; PLACES]?;
-        let shares = vec![in heap; 0; PLACES]?;
-        let sheet = vec![in heap; Point::UNUSED; PLACES]?;
+        report.go_to(line);
+        report.tell(Kind::Ledger, Ok(first_day), |report, day| {
+            report.field("day", u64::from(day))
+        })?;
+        let sheets = Sheets::new(heap, PLACES)?;
         Ok(Player {
             heap,
-            sheet,
-            uses,
-            shares,
-            unset: true,
-            profiles: Vec::new(heap),
+            station: Station::new(first_day),
+            slips: Slips::new(heap),
+            sheets,
+            profiles: BTreeMap::new(heap),
             traders: Vec::new(heap),
             measured: 0,
             inflow: 0,
         })
     }
 
-    fn find(&self, name: &[u8]) -> Option<&Recipe> {
-        for profile in self.profiles.iter() {
-            if profile.name.as_slice() == name {
-                return Some(&profile.recipe);
-            }
-        }
-        None
-    }
-
-    fn set_sheet(&mut self, line: u64, places: u32, report: &mut Report) -> Result<(), Trouble> {
-        if !self.unset {
-            return Err(Trouble::SheetLate);
-        }
-        if places > MOST_PLACES {
-            return Err(Trouble::TooManyPlaces);
-        }
-        let n = places as usize;
-        self.sheet = vec![in self.heap; Point::UNUSED; n]?;
-        self.uses = vec![in self.heap; 0; n]?;
-        self.shares = vec![in self.heap; 0; n]?;
-        self.unset = false;
-        report.call(line, Kind::Sheet)?;
-        report.field("places", places as u64)?;
-        report.end()?;
-        Ok(())
-    }
-
-    // Names a profile, or tells why it was refused.
-    fn name_profile(
-        &mut self,
-        line: u64,
-        name: &[u8],
-        made: Result<Recipe, Refusal>,
-        report: &mut Report,
-    ) -> Result<(), Trouble> {
-        report.call(line, Kind::Profile)?;
-        match made {
-            Ok(recipe) => {
-                report.text(name)?;
-                report.field("segments", recipe.segments() as u64)?;
-                let name = Vec::from_slice(self.heap, name)?;
-                self.profiles.push(Named { name, recipe })?;
-            }
-            Err(why) => report.refused(why)?,
-        }
-        report.end()?;
-        Ok(())
-    }
-
-    // A profile that is filled from a file of numbers, or holds one factor.
-    fn add_profile(
-        &mut self,
-        line: u64,
-        name: &[u8],
-        made: Result<Recipe, Refusal>,
-        report: &mut Report,
-    ) -> Result<(), Trouble> {
-        if self.find(name).is_some() {
-            return Err(Trouble::NameTaken);
-        }
-        self.name_profile(line, name, made, report)
-    }
-
-    // A season layer over a named profile.
-    fn add_layer(
-        &mut self,
-        line: u64,
-        name: &[u8],
-        below: &[u8],
-        layer: Layer,
-        report: &mut Report,
-    ) -> Result<(), Trouble> {
-        if self.find(name).is_some() {
-            return Err(Trouble::NameTaken);
-        }
-        let Some(recipe) = self.find(below) else {
-            return Err(Trouble::NoProfile);
-        };
-        if !recipe.has_room() {
-            return Err(Trouble::PileTooHigh);
-        }
-        let made = match test_layer(&layer) {
-            Ok(()) => Ok(recipe.under(layer)?),
-            Err(why) => Err(why),
-        };
-        self.name_profile(line, name, made, report)
-    }
-
-    fn admit_trader(
-        &mut self,
-        station: &mut Station,
-        line: u64,
-        name: Option<&[u8]>,
-        report: &mut Report,
-    ) -> Result<(), Trouble>
-        ensures { station.new.ledger.book ≡ admit_book station.old.ledger.book }
-    {
-        let told = station.admit_trader();
-        report.call(line, Kind::Trader)?;
-        match told {
-            Ok(trader) => {
-                let name = name.unwrap_or(b"-");
-                self.traders.push(Vec::from_slice(self.heap, name)?)?;
-                report.number(trader as u64)?;
-                report.text(name)?;
-            }
-            Err(why) => report.refused(why)?,
-        }
-        report.end()?;
-        Ok(())
-    }
-
-    fn admit_point(
-        &mut self,
-        station: &mut Station,
-        line: u64,
-        given: Particulars,
-        report: &mut Report,
-    ) -> Result<(), Trouble>
-        ensures { station.new.ledger.book ≡ point_book station.old.ledger.book self.old.sheet.items given }
-    {
-        let told = station.admit_point(self.sheet.as_mut_slice(), given);
-        self.unset = false;
-        report.call(line, Kind::Point)?;
-        match told {
-            Ok(point) => report.number(point as u64)?,
-            Err(why) => report.refused(why)?,
-        }
-        report.end()?;
-        Ok(())
-    }
-
-    // The line of a call that tells the number of an opening.
-    fn tell_opening(
-        &self,
-        line: u64,
-        kind: Kind,
-        told: Result<u32, Refusal>,
-        report: &mut Report,
-    ) -> Result<(), AllocError> {
-        report.call(line, kind)?;
-        match told {
-            Ok(opening) => report.field("opening", opening as u64)?,
-            Err(why) => report.refused(why)?,
-        }
-        report.end()
-    }
-
-    fn tell_open(
-        &self,
-        line: u64,
-        told: Result<u32, Refusal>,
-        day: u32,
-        report: &mut Report,
-    ) -> Result<(), AllocError> {
-        report.call(line, Kind::Open)?;
-        match told {
-            Ok(opening) => {
-                report.field("opening", opening as u64)?;
-                report.field("day", day as u64)?;
-            }
-            Err(why) => report.refused(why)?,
-        }
-        report.end()
-    }
-
-    // The line of a call that tells a trader's litres.
-    fn tell_litres(
-        &self,
-        line: u64,
-        kind: Kind,
-        trader: u32,
-        name: &str,
-        told: Result<u64, Refusal>,
-        report: &mut Report,
-    ) -> Result<(), AllocError> {
-        report.call(line, kind)?;
-        match told {
-            Ok(litres) => {
-                report.field("trader", trader as u64)?;
-                report.field(name, litres)?;
-            }
-            Err(why) => report.refused(why)?,
-        }
-        report.end()
-    }
-
-    // A share-out's quantity, sum and loss, then each point's consumption and share.
-    fn tell_shares(
-        &mut self,
-        line: u64,
-        points: usize,
-        told: Result<SharedOut, Refusal>,
-        report: &mut Report,
-    ) -> Result<(), AllocError> {
-        report.call(line, Kind::Share)?;
-        match told {
-            Ok(out) => {
-                self.inflow = self.inflow.saturating_add(self.measured);
-                report.field("A", out.quantity)?;
-                report.field("S", out.total)?;
-                report.field("loss", out.loss)?;
-                report.end()?;
-                self.tell_points(line, points, report)
-            }
-            Err(why) => {
-                report.refused(why)?;
-                report.end()
-            }
-        }
-    }
-
-    fn tell_points(&self, line: u64, points: usize, report: &mut Report) -> Result<(), AllocError> {
-        let both = self.uses.iter().zip(self.shares.iter());
-        for (point, (consumption, share)) in both.enumerate().take(points) {
-            report.point(line, point as u64, *consumption, *share)?;
-        }
-        Ok(())
-    }
-
-    fn share(
-        &mut self,
-        station: Station,
-        line: u64,
-        name: &[u8],
-        rule: Rule,
-        report: &mut Report,
-    ) -> (Station, Result<(), Trouble>) {
-        let points = station.ledger().counts().points;
-        let (station, told) = match self.shared(station, name, rule) {
-            (station, Ok(told)) => (station, told),
-            (station, Err(trouble)) => return (station, Err(trouble)),
-        };
-        match self.tell_shares(line, points, told, report) {
-            Ok(()) => (station, Ok(())),
-            Err(_) => (station, Err(Trouble::Memory)),
-        }
-    }
-
-    fn shared(
-        &mut self,
-        station: Station,
-        name: &[u8],
-        rule: Rule,
-    ) -> (Station, Result<Result<SharedOut, Refusal>, Trouble>) {
-        for profile in self.profiles.iter() {
-            if profile.name.as_slice() == name {
-                let sheet = self.sheet.as_mut_slice();
-                let uses = self.uses.as_mut_slice();
-                let shares = self.shares.as_mut_slice();
-                let (station, told) = match rule {
-                    Rule::Running => profile.recipe.share(station, &Running, sheet, uses, shares),
-                    Rule::Largest => {
-                        profile
-                            .recipe
-                            .share(station, &LargestRemainder, sheet, uses, shares)
-                    }
-                };
-                return (station, Ok(told));
-            }
-        }
-        (station, Err(Trouble::NoProfile))
-    }
-
     // Plays a call. `numbers` are those of the call's file, where it has one.
     pub fn play(
         &mut self,
-        mut station: Station,
         line: u64,
-        slips: &mut Slips,
         call: Call<'_>,
         numbers: Vec<u32>,
         report: &mut Report,
-    ) -> (Station, Result<(), Trouble>)
-        ensures { Plays call.entry self.old.sheet.items station.running station.ledger.book result.0.ledger.book }
-    {
-        match call {
-            Call::Open { .. } | Call::Inflow { .. } | Call::Share { .. } | Call::Abandon => {
-                self.play_day(station, line, call, report)
-            }
-            Call::Read { .. } | Call::Book { .. } | Call::HandOver { .. } | Call::Withdraw { .. } =>
-                {
-                    let done = self.play_reading(&mut station, line, slips, call, report);
-                    (station, done)
-                }
-            _ => {
-                let done = self.play_beside(&mut station, line, call, numbers, report);
-                (station, done)
-            }
-        }
-    }
-
-    // Plays a call on a reading.
-    fn play_reading(
-        &mut self,
-        station: &mut Station,
-        line: u64,
-        slips: &mut Slips,
-        call: Call<'_>,
-        report: &mut Report,
     ) -> Result<(), Trouble>
-        ensures { of_slip call.entry ≡ true → Plays call.entry self.old.sheet.items station.old.running station.old.ledger.book station.new.ledger.book }
+        ensures { Plays call.entry self.old.sheets.points.items self.old.station.running self.old.station.ledger.book self.new.station.ledger.book }
     {
-        let sheet = self.sheet.as_mut_slice();
+        report.go_to(line);
         match call {
-            Call::Read { point, reading } => {
-                let told = slips.read(station, sheet, point as usize, reading)?;
-                tell_slip(line, Kind::Read, point, told, report)?;
-            }
-            Call::Book { point } => {
-                let told = slips.book(station, sheet, point as usize);
-                tell_correction(line, Kind::Book, point, None, told, report)?;
-            }
-            Call::HandOver { point, trader } => {
-                let told = slips.hand_over(station, sheet, point as usize, trader);
-                tell_correction(line, Kind::HandOver, point, Some(trader), told, report)?;
-            }
-            Call::Withdraw { point } => {
-                let told = slips.withdraw(station.ledger(), sheet, point as usize);
-                tell_slip(line, Kind::Withdraw, point, told, report)?;
-            }
-            _ => return Err(Trouble::LedgerAgain),
+            Call::Open {
+                temperature,
+                season,
+            } => self.open(
+                Weather {
+                    temperature,
+                    season,
+                },
+                report,
+            ),
+            Call::Inflow { litres, rate } => self.take_inflow(litres, rate, report),
+            Call::Share { profile, rule } => self.share(profile, rule, report),
+            Call::Abandon => self.abandon(report),
+            Call::Read { point, reading } => self.read(point, reading, report),
+            Call::Book { point } => self.book(point, report),
+            Call::HandOver { point, trader } => self.hand_over(point, trader, report),
+            Call::Withdraw { point } => self.withdraw(point, report),
+            _ => self.play_beside(call, numbers, report),
         }
-        Ok(())
     }
 
-    // Plays a call that leaves the running day as it is.
+    // Plays a call that leaves the running day and the slips as they are.
     fn play_beside(
         &mut self,
-        station: &mut Station,
-        line: u64,
         call: Call<'_>,
         numbers: Vec<u32>,
         report: &mut Report,
     ) -> Result<(), Trouble>
-        ensures { of_day call.entry ≡ false → of_slip call.entry ≡ false → Plays call.entry self.old.sheet.items station.old.running station.old.ledger.book station.new.ledger.book }
+        ensures { of_day call.entry ≡ false → of_slip call.entry ≡ false → Plays call.entry self.old.sheets.points.items self.old.station.running self.old.station.ledger.book self.new.station.ledger.book }
     {
+        let heap = self.heap;
         match call {
-            Call::Sheet { places } => self.set_sheet(line, places, report),
+            Call::Sheet { places } => self.set_sheet(places, report),
             Call::Table { name, .. } => self.add_profile(
-                line,
                 name,
-                Recipe::table(numbers),
+                Recipe::table(heap, numbers),
                 report,
             ),
-            Call::Even { name, factor } => self.add_profile(
-                line,
-                name,
-                Recipe::even(factor),
-                report,
-            ),
+            Call::Even { name, factor } => {
+                self.add_profile(name, Recipe::even(heap, factor), report)
+            }
             Call::Season {
                 name,
                 segment,
                 below,
                 ..
-            } => { self.add_layer(line, name, below, Layer { segment, numbers }, report) }
-            Call::Trader { name } => self.admit_trader(station, line, name, report),
+            } => self.add_layer(name, below, Layer::new(segment, numbers), report),
+            Call::Trader { name } => self.admit_trader(name.unwrap_or(b"-"), report),
             Call::Point {
                 trader,
                 segment,
@@ -443,222 +141,281 @@ impl Player {
                     reading,
                     scale_factor,
                 };
-                self.admit_point(station, line, given, report)
+                self.admit_point(given, report)
             }
-            Call::Enter { trader, litres } => {
-                let told = station.enter(trader, litres);
-                self.tell_litres(line, Kind::Enter, trader, "metered", told, report)?;
-                Ok(())
-            }
-            Call::Quantity { trader } => {
-                let told = station
-                    .ledger()
-                    .open_quantity(self.sheet.as_slice(), trader);
-                self.tell_litres(line, Kind::Quantity, trader, "litres", told, report)?;
-                Ok(())
-            }
+            Call::Enter { trader, litres } => self.enter(trader, litres, report),
+            Call::Quantity { trader } => self.quantity(trader, report),
             _ => Err(Trouble::LedgerAgain),
         }
     }
 
-    // Plays a call that opens, measures or ends the day.
-    fn play_day(
-        &mut self,
-        station: Station,
-        line: u64,
-        call: Call<'_>,
-        report: &mut Report,
-    ) -> (Station, Result<(), Trouble>)
-        ensures { of_day call.entry ≡ true → Plays call.entry self.old.sheet.items station.running station.ledger.book result.0.ledger.book }
+    fn set_sheet(&mut self, places: u32, report: &mut Report) -> Result<(), Trouble>
+        ensures { self.new.station.ledger.book ≡ self.old.station.ledger.book }
     {
-        match call {
-            Call::Open {
-                temperature,
-                season,
-            } => {
-                let day = station.ledger().next_day();
-                let (station, told) = station.open(Weather {
-                    temperature,
-                    season,
-                });
-                (station, written(self.tell_open(line, told, day, report)))
-            }
-            Call::Inflow { litres, rate } => {
-                let (station, told) = station.take_inflow(litres, rate);
-                if told.is_ok() {
-                    self.measured = litres;
-                }
-                (
-                    station,
-                    written(self.tell_opening(line, Kind::Inflow, told, report)),
-                )
-            }
-            Call::Share { profile, rule } => self.share(station, line, profile, rule, report),
-            _ => {
-                let (station, told) = station.abandon();
-                (
-                    station,
-                    written(self.tell_opening(line, Kind::Abandon, told, report)),
-                )
-            }
-        }
+        self.sheets.set(self.heap, places)?;
+        Ok(report.tell(Kind::Sheet, Ok(places), |report, places| {
+            report.field("places", u64::from(places))
+        })?)
     }
 
-    // The closing report: the accounts, the correction account and the balance. Slips that are still open are named and withdrawn, and a
-    // day that still runs is named and abandoned.
-    pub fn close(
+    // A profile that is filled from a file of numbers, or holds one factor.
+    fn add_profile(
         &mut self,
-        station: Station,
-        slips: Slips,
+        name: &[u8],
+        made: Result<Recipe, Refusal>,
         report: &mut Report,
-    ) -> (Result<(), Trouble>, Result<(), Slips>)
-        ensures { IfErr result.1 (λ left. 0 < vec_len left.open) }
+    ) -> Result<(), Trouble>
+        ensures { self.new.station.ledger.book ≡ self.old.station.ledger.book }
     {
-        let points = station.ledger().counts().points;
-        let named = written(tell_open_slips(&slips, points, report));
-        let (station, told) = station.abandon();
-        let ledger = station.close();
-        let ended = self.end_slips(&ledger, slips);
-        if named.is_err() {
-            return (named, ended);
+        if self.profiles.contains_key(name) {
+            return Err(Trouble::NameTaken);
         }
-        (written(self.tell_closing(&ledger, told, report)), ended)
+        let segments = match made {
+            Ok(recipe) => {
+                let segments = recipe.segments();
+                self.profiles
+                    .insert(Vec::from_slice(self.heap, name)?, recipe)?;
+                Ok(segments)
+            }
+            Err(why) => Err(why),
+        };
+        Ok(report.tell(Kind::Profile, segments, |report, segments| {
+            report.text(name)?;
+            report.field("segments", u64::from(segments))
+        })?)
     }
 
-    // Withdraws every slip that is still open.
-    pub fn end_slips(&mut self, ledger: &Ledger, slips: Slips) -> Result<(), Slips>
+    // A season layer over a named profile.
+    fn add_layer(
+        &mut self,
+        name: &[u8],
+        below: &[u8],
+        layer: Result<Layer, Refusal>,
+        report: &mut Report,
+    ) -> Result<(), Trouble>
+        ensures { self.new.station.ledger.book ≡ self.old.station.ledger.book }
+    {
+        if self.profiles.contains_key(name) {
+            return Err(Trouble::NameTaken);
+        }
+        let recipe = self.profiles.get(below).ok_or(Trouble::NoProfile)?;
+        if !recipe.has_room() {
+            return Err(Trouble::PileTooHigh);
+        }
+        let made = match layer {
+            Ok(layer) => Ok(recipe.under(layer)?),
+            Err(why) => Err(why),
+        };
+        self.add_profile(name, made, report)
+    }
+
+    fn admit_trader(&mut self, name: &[u8], report: &mut Report) -> Result<(), Trouble>
+        ensures { self.new.station.ledger.book ≡ admit_book self.old.station.ledger.book }
+    {
+        let told = self.station.admit_trader();
+        if told.is_ok() {
+            self.traders.push(Vec::from_slice(self.heap, name)?)?;
+        }
+        Ok(report.tell(Kind::Trader, told, |report, trader| {
+            report.number(u64::from(trader))?;
+            report.text(name)
+        })?)
+    }
+
+    fn admit_point(&mut self, given: Particulars, report: &mut Report) -> Result<(), Trouble>
+        ensures { self.new.station.ledger.book ≡ point_book self.old.station.ledger.book self.old.sheets.points.items given }
+    {
+        let sheet = self.sheets.points.as_mut_slice();
+        let told = self.station.admit_point(sheet, given);
+        self.sheets.settled = true;
+        Ok(report.tell(Kind::Point, told, |report, point| {
+            report.number(point as u64)
+        })?)
+    }
+
+    fn open(&mut self, weather: Weather, report: &mut Report) -> Result<(), Trouble>
+        ensures { self.new.station.ledger.book ≡ open_book self.old.station.ledger.book weather.temperature weather.season }
+    {
+        let day = self.station.ledger().next_day();
+        let told = self.station.open(weather);
+        Ok(report.tell(Kind::Open, told, |report, opening| {
+            report.field("opening", u64::from(opening))?;
+            report.field("day", u64::from(day))
+        })?)
+    }
+
+    fn enter(&mut self, trader: u32, litres: u64, report: &mut Report) -> Result<(), Trouble>
+        ensures { self.new.station.ledger.book ≡ enter_book self.old.station.ledger.book (open_day self.old.station.running) trader litres }
+    {
+        let told = self.station.enter(trader, litres);
+        Ok(report.tell(Kind::Enter, told, |report, metered| {
+            report.field("trader", u64::from(trader))?;
+            report.field("metered", metered)
+        })?)
+    }
+
+    fn take_inflow(&mut self, litres: u64, rate: u32, report: &mut Report) -> Result<(), Trouble>
+        ensures { self.new.station.ledger.book ≡ inflow_book self.old.station.ledger.book (open_day self.old.station.running) litres rate }
+    {
+        let told = self.station.take_inflow(litres, rate);
+        if told.is_ok() {
+            self.measured = litres;
+        }
+        Ok(report.tell(Kind::Inflow, told, |report, opening| {
+            report.field("opening", u64::from(opening))
+        })?)
+    }
+
+    // A share-out's quantity, sum and loss, then each point's consumption and share.
+    fn share(&mut self, name: &[u8], rule: Rule, report: &mut Report) -> Result<(), Trouble> {
+        let points = self.station.ledger().counts().points;
+        let recipe = self.profiles.get(name).ok_or(Trouble::NoProfile)?;
+        let (station, sheets) = (&mut self.station, &mut self.sheets);
+        let told = match rule {
+            Rule::Running => recipe.share(station, &Running, sheets),
+            Rule::Largest => recipe.share(station, &LargestRemainder, sheets),
+        };
+        report.tell(Kind::Share, told, |report, out| {
+            report.field("A", out.quantity)?;
+            report.field("S", out.total)?;
+            report.field("loss", out.loss)
+        })?;
+        if told.is_ok() {
+            self.inflow = self.inflow.saturating_add(self.measured);
+            let sheets = &self.sheets;
+            let both = sheets.uses.iter().zip(sheets.shares.iter());
+            for (point, (consumption, share)) in (0u64..).zip(both).take(points) {
+                report.point(point, *consumption, *share)?;
+            }
+        }
+        Ok(())
+    }
+
+    fn abandon(&mut self, report: &mut Report) -> Result<(), Trouble>
+        ensures { self.new.station.ledger.book ≡ abandoned self.old.station.ledger.book self.old.station.running }
+    {
+        let told = self.station.abandon();
+        Ok(report.tell(Kind::Abandon, told, |report, opening| {
+            report.field("opening", u64::from(opening))
+        })?)
+    }
+
+    fn read(&mut self, point: u32, reading: u32, report: &mut Report) -> Result<(), Trouble> {
+        let sheet = self.sheets.points.as_mut_slice();
+        let told = self
+            .slips
+            .read(&mut self.station, sheet, point as usize, reading)?;
+        Ok(report.tell(Kind::Read, told, |report, slip| {
+            report.field("point", u64::from(point))?;
+            report.field("slip", u64::from(slip))
+        })?)
+    }
+
+    fn book(&mut self, point: u32, report: &mut Report) -> Result<(), Trouble> {
+        let sheet = self.sheets.points.as_mut_slice();
+        let told = self.slips.book(&mut self.station, sheet, point as usize);
+        Ok(report.tell(Kind::Book, told, |report, correction| {
+            report.field("point", u64::from(point))?;
+            report.signed_field("correction", i128::from(correction))
+        })?)
+    }
+
+    fn hand_over(&mut self, point: u32, trader: u32, report: &mut Report) -> Result<(), Trouble> {
+        let sheet = self.sheets.points.as_mut_slice();
+        let told = self
+            .slips
+            .hand_over(&mut self.station, sheet, point as usize, trader);
+        Ok(report.tell(Kind::HandOver, told, |report, correction| {
+            report.field("point", u64::from(point))?;
+            report.field("trader", u64::from(trader))?;
+            report.signed_field("correction", i128::from(correction))
+        })?)
+    }
+
+    fn withdraw(&mut self, point: u32, report: &mut Report) -> Result<(), Trouble>
+        ensures { self.new.station.ledger.book ≡ self.old.station.ledger.book }
+    {
+        let sheet = self.sheets.points.as_mut_slice();
+        let told = self
+            .slips
+            .withdraw(self.station.ledger(), sheet, point as usize);
+        Ok(report.tell(Kind::Withdraw, told, |report, slip| {
+            report.field("point", u64::from(point))?;
+            report.field("slip", u64::from(slip))
+        })?)
+    }
+
+    fn quantity(&mut self, trader: u32, report: &mut Report) -> Result<(), Trouble>
+        ensures { self.new.station.ledger.book ≡ self.old.station.ledger.book }
+    {
+        let (station, sheets) = (&self.station, &self.sheets);
+        let told = station
+            .ledger()
+            .open_quantity(sheets.points.as_slice(), trader);
+        Ok(report.tell(Kind::Quantity, told, |report, litres| {
+            report.field("trader", u64::from(trader))?;
+            report.field("litres", litres)
+        })?)
+    }
+
+    // The closing report. Slips that are still open are named and withdrawn, and a day that still runs is named and abandoned; slips that
+    // the ledger would not take back come back.
+    pub fn close(self, report: &mut Report) -> Result<Result<(), Trouble>, Slips>
         ensures { IfErr result (λ left. 0 < vec_len left.open) }
     {
-        slips.end(ledger, self.sheet.as_mut_slice())
+        let named = tell_open_slips(&self.slips, report);
+        let Player {
+            heap: _,
+            mut station,
+            slips,
+            mut sheets,
+            profiles: _,
+            traders,
+            measured: _,
+            inflow,
+        } = self;
+        let told = station.abandon();
+        let ledger = station.close();
+        slips.end(&ledger, sheets.points.as_mut_slice())?;
+        let closing = Closing {
+            ledger: &ledger,
+            sheet: sheets.points.as_slice(),
+            traders: traders.as_slice(),
+            inflow,
+        };
+        Ok(written(named, told, closing, report))
     }
 
-    fn tell_closing(
-        &self,
-        ledger: &Ledger,
-        told: Result<u32, Refusal>,
-        report: &mut Report,
-    ) -> Result<(), AllocError> {
-        if let Ok(opening) = told {
-            report.closing("abandon")?;
-            report.field("opening", opening as u64)?;
-            report.end()?;
-        }
-        self.tell_accounts(ledger, report)
-    }
-
-    fn tell_accounts(&self, ledger: &Ledger, report: &mut Report) -> Result<(), AllocError> {
-        let all = totals(ledger, self.sheet.as_slice());
-        report.closing("loss")?;
-        report.number(all.loss)?;
-        report.end()?;
-        let mut trader: u32 = 0;
-        for name in self.traders.iter() {
-            self.tell_trader(ledger, trader, name.as_slice(), report)?;
-            trader = trader.saturating_add(1);
-        }
-        report.closing("correction")?;
-        report.signed(all.correction as i128)?;
-        report.end()?;
-        report.closing("balance")?;
-        report.field("inflow", self.inflow)?;
-        report.field("loss", all.loss)?;
-        report.signed_field("accounts", all.accounts)?;
-        report.signed_field("correction", all.correction as i128)?;
-        report.signed_field("difference", difference(self.inflow, all.inflow))?;
-        report.end()
-    }
-
-    fn tell_trader(
-        &self,
-        ledger: &Ledger,
-        trader: u32,
-        name: &[u8],
-        report: &mut Report,
-    ) -> Result<(), AllocError> {
-        report.closing("trader")?;
-        report.number(trader as u64)?;
-        report.text(name)?;
-        match ledger.account(trader) {
-            Ok(account) => report.signed_field("account", account as i128)?,
-            Err(why) => report.refused(why)?,
-        }
-        report.text(b"open")?;
-        match ledger.open_quantity(self.sheet.as_slice(), trader) {
-            Ok(litres) => report.number(litres)?,
-            Err(why) => report.refused(why)?,
-        }
-        report.end()
+    // Withdraws every slip that is still open, and ends the running day.
+    pub fn end(self) -> Result<(), Slips>
+        ensures { IfErr result (λ left. 0 < vec_len left.open) }
+    {
+        let Player {
+            heap: _,
+            station,
+            slips,
+            mut sheets,
+            profiles: _,
+            traders: _,
+            measured: _,
+            inflow: _,
+        } = self;
+        let closed = station.close();
+        slips.end(&closed, sheets.points.as_mut_slice())
     }
 }
 
-// The line of the first call.
-fn tell_ledger(line: u64, first_day: u32, report: &mut Report) -> Result<(), AllocError> {
-    report.call(line, Kind::Ledger)?;
-    report.field("day", first_day as u64)?;
-    report.end()
-}
-
-// The line of a call that tells the number of a point's slip.
-fn tell_slip(
-    line: u64,
-    kind: Kind,
-    point: u32,
+fn written(
+    named: Result<(), AllocError>,
     told: Result<u32, Refusal>,
+    closing: Closing<'_>,
     report: &mut Report,
-) -> Result<(), AllocError> {
-    report.call(line, kind)?;
-    match told {
-        Ok(number) => {
-            report.field("point", point as u64)?;
-            report.field("slip", number as u64)?;
-        }
-        Err(why) => report.refused(why)?,
+) -> Result<(), Trouble> {
+    named?;
+    if let Ok(opening) = told {
+        report.closing("abandon", |report| {
+            report.field("opening", u64::from(opening))
+        })?;
     }
-    report.end()
-}
-
-// The line of a call that books a reading, with the trader who then has the point where it was handed over.
-fn tell_correction(
-    line: u64,
-    kind: Kind,
-    point: u32,
-    trader: Option<u32>,
-    told: Result<i64, Refusal>,
-    report: &mut Report,
-) -> Result<(), AllocError> {
-    report.call(line, kind)?;
-    match told {
-        Ok(correction) => {
-            report.field("point", point as u64)?;
-            if let Some(trader) = trader {
-                report.field("trader", trader as u64)?;
-            }
-            report.signed_field("correction", correction as i128)?;
-        }
-        Err(why) => report.refused(why)?,
-    }
-    report.end()
-}
-
-// A closing line for each open slip, by its point.
-fn tell_open_slips(slips: &Slips, points: usize, report: &mut Report) -> Result<(), AllocError> {
-    for point in 0..points {
-        if let Some(number) = slips.number(point) {
-            report.closing("withdraw")?;
-            report.field("point", point as u64)?;
-            report.field("slip", number as u64)?;
-            report.end()?;
-        }
-    }
-    Ok(())
-}
-
-fn written(done: Result<(), AllocError>) -> Result<(), Trouble> {
-    done?;
-    Ok(())
-}
-
-// What was taken in and lies in no account: always 0.
-fn difference(inflow: u64, accounted: i128) -> i128 {
-    (inflow as i128).saturating_sub(accounted)
+    Ok(closing.tell(report)?)
 }

@@ -1,32 +1,34 @@
 // How a named profile is made: a table or an even profile, and up to two season layers over it.
+use crate::sheets::Sheets;
 use crate::station::Station;
-use crate::trouble::Trouble;
-use ledger::{Point, SharedOut};
+use ledger::SharedOut;
 use profiles::{EvenProfile, Profile, SeasonLayer, TableProfile};
 use refusals::Refusal;
 use shares::ShareRule;
-use std::alloc::AllocError;
+use std::alloc::{AllocError, Global};
 
-#[derive(Drop)]
+const MOST_LAYERS: usize = 2;
+
+#[derive(Clone, Drop)]
 enum Base {
     Table(Vec<u32>),
     Even(u32),
 }
 
 // The season numbers of one segment.
-#[derive(Drop)]
+#[derive(Clone, Drop)]
 pub(crate) struct Layer {
-    pub(crate) segment: u32,
-    pub(crate) numbers: Vec<u32>,
+    segment: u32,
+    numbers: Vec<u32>,
 }
 
 // A profile is made anew for each share-out, from the sheets that were tested when it was named: a profile has no copy, and a layer
-// takes over the profile below it.
-#[derive(Drop)]
+// takes over the profile below it. (Tried: a layer over a borrowed one; the check cannot state SEGMENTS of a type with a lifetime.)
+#[derive(Clone, Drop)]
 pub(crate) struct Recipe {
     base: Base,
-    lower: Option<Layer>,
-    upper: Option<Layer>,
+    // the lowest first
+    layers: Vec<Layer>,
 }
 
 fn table(numbers: &[u32]) -> Result<TableProfile, Refusal> {
@@ -35,42 +37,35 @@ fn table(numbers: &[u32]) -> Result<TableProfile, Refusal> {
     Ok(profile)
 }
 
-fn layered<P: Profile + Drop>(below: P, layer: &Layer) -> Result<SeasonLayer<P>, Refusal> {
-    match SeasonLayer::new(below, layer.segment) {
-        Ok(mut profile) => {
-            profile.fill(layer.numbers.as_slice())?;
-            Ok(profile)
-        }
-        Err(refused) => Err(refused.why),
+impl Layer {
+    // A layer that can be made: its segment is tested, then its numbers.
+    pub(crate) fn new(segment: u32, numbers: Vec<u32>) -> Result<Layer, Refusal> {
+        let layer = Layer { segment, numbers };
+        let _tested = layer.over(EvenProfile::new(0)?)?;
+        Ok(layer)
     }
-}
 
-fn copy_layer(layer: &Option<Layer>) -> Result<Option<Layer>, AllocError> {
-    match layer {
-        None => Ok(None),
-        Some(layer) => Ok(Some(Layer {
-            segment: layer.segment,
-            numbers: layer.numbers.clone()?,
-        })),
+    fn over<P: Profile + Drop>(&self, below: P) -> Result<SeasonLayer<P>, Refusal> {
+        let mut profile = SeasonLayer::new(below, self.segment).map_err(|refused| refused.why)?;
+        profile.fill(self.numbers.as_slice())?;
+        Ok(profile)
     }
 }
 
 impl Recipe {
-    pub(crate) fn table(numbers: Vec<u32>) -> Result<Recipe, Refusal> {
+    pub(crate) fn table(heap: Global, numbers: Vec<u32>) -> Result<Recipe, Refusal> {
         let _tested = table(numbers.as_slice())?;
         Ok(Recipe {
             base: Base::Table(numbers),
-            lower: None,
-            upper: None,
+            layers: Vec::new(heap),
         })
     }
 
-    pub(crate) fn even(factor: u32) -> Result<Recipe, Refusal> {
+    pub(crate) fn even(heap: Global, factor: u32) -> Result<Recipe, Refusal> {
         let _tested = EvenProfile::new(factor)?;
         Ok(Recipe {
             base: Base::Even(factor),
-            lower: None,
-            upper: None,
+            layers: Vec::new(heap),
         })
     }
 
@@ -82,98 +77,49 @@ impl Recipe {
         }
     }
 
-    fn copy_base(&self) -> Result<Base, AllocError> {
-        match &self.base {
-            Base::Table(numbers) => Ok(Base::Table(numbers.clone()?)),
-            Base::Even(factor) => Ok(Base::Even(*factor)),
-        }
-    }
-
     // Whether another layer may stand over it.
     pub(crate) fn has_room(&self) -> bool {
-        self.upper.is_none()
+        self.layers.len() < MOST_LAYERS
     }
 
-    // The same profile with one layer more, which takes the place that is free.
+    // The same profile with one layer more.
     pub(crate) fn under(&self, layer: Layer) -> Result<Recipe, AllocError> {
-        let base = self.copy_base()?;
-        let lower = copy_layer(&self.lower)?;
-        if lower.is_some() {
-            Ok(Recipe {
-                base,
-                lower,
-                upper: Some(layer),
-            })
-        } else {
-            Ok(Recipe {
-                base,
-                lower: Some(layer),
-                upper: None,
-            })
-        }
+        let mut recipe = self.clone()?;
+        recipe.layers.push(layer)?;
+        Ok(recipe)
     }
 
     // Shares the measured day out by this profile.
     pub(crate) fn share<R: ShareRule>(
         &self,
-        station: Station,
+        station: &mut Station,
         rule: &R,
-        sheet: &mut [Point],
-        uses: &mut [u64],
-        shares: &mut [u64],
-    ) -> (Station, Result<SharedOut, Refusal>) {
+        sheets: &mut Sheets,
+    ) -> Result<SharedOut, Refusal> {
         match &self.base {
-            Base::Table(numbers) => match table(numbers.as_slice()) {
-                Ok(profile) => self.share_over(profile, station, rule, sheet, uses, shares),
-                Err(why) => (station, Err(why)),
-            },
-            Base::Even(factor) => match EvenProfile::new(*factor) {
-                Ok(profile) => self.share_over(profile, station, rule, sheet, uses, shares),
-                Err(why) => (station, Err(why)),
-            },
+            Base::Table(numbers) => {
+                self.share_over(table(numbers.as_slice())?, station, rule, sheets)
+            }
+            Base::Even(factor) => {
+                self.share_over(EvenProfile::new(*factor)?, station, rule, sheets)
+            }
         }
     }
 
     fn share_over<P: Profile + Drop, R: ShareRule>(
         &self,
         base: P,
-        station: Station,
+        station: &mut Station,
         rule: &R,
-        sheet: &mut [Point],
-        uses: &mut [u64],
-        shares: &mut [u64],
-    ) -> (Station, Result<SharedOut, Refusal>) {
-        match &self.lower {
-            None => station.share(sheet, &base, rule, uses, shares),
-            Some(layer) => match layered(base, layer) {
-                Ok(profile) => self.share_upper(profile, station, rule, sheet, uses, shares),
-                Err(why) => (station, Err(why)),
-            },
+        sheets: &mut Sheets,
+    ) -> Result<SharedOut, Refusal> {
+        match self.layers.as_slice() {
+            [] => station.share(&base, rule, sheets),
+            [layer] => station.share(&layer.over(base)?, rule, sheets),
+            [lower, upper, ..] => {
+                let lower = lower.over(base)?;
+                station.share(&upper.over(lower)?, rule, sheets)
+            }
         }
     }
-
-    fn share_upper<P: Profile + Drop, R: ShareRule>(
-        &self,
-        lower: P,
-        station: Station,
-        rule: &R,
-        sheet: &mut [Point],
-        uses: &mut [u64],
-        shares: &mut [u64],
-    ) -> (Station, Result<SharedOut, Refusal>) {
-        match &self.upper {
-            None => station.share(sheet, &lower, rule, uses, shares),
-            Some(layer) => match layered(lower, layer) {
-                Ok(profile) => station.share(sheet, &profile, rule, uses, shares),
-                Err(why) => (station, Err(why)),
-            },
-        }
-    }
-}
-
-// Whether a season layer can be made: its segment, then its numbers.
-pub(crate) fn test_layer(layer: &Layer) -> Result<(), Refusal> {
-    let below = EvenProfile::new(0)?;
-    let _tested = layered(below, layer)?;
-    Ok(())
 }

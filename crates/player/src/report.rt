@@ -12,6 +12,8 @@ pub struct Report {
     heap: Global,
     bytes: Vec<u8>,
     csv: bool,
+    // that of the call which is played
+    line: u64,
 }
 
 impl Report {
@@ -23,7 +25,16 @@ impl Report {
             heap,
             bytes: Vec::new(heap),
             csv,
+            line: 0,
         }
+    }
+
+    // Goes on to the call of a line.
+    pub(crate) fn go_to(&mut self, line: u64)
+        ensures bytes { self.new.bytes.items ≡ self.old.bytes.items }
+        ensures line { self.new.line ≡ line }
+    {
+        self.line = line;
     }
 
     pub fn as_bytes(&self) -> &[u8]
@@ -35,6 +46,7 @@ impl Report {
     pub fn clear(&mut self)
         ensures empty { self.new.bytes.items ≡ [] }
         ensures form { self.new.csv ≡ self.old.csv }
+        ensures line { self.new.line ≡ self.old.line }
     {
         self.bytes.clear();
     }
@@ -72,14 +84,13 @@ impl Report {
     // The line of a point in a share-out.
     pub(crate) fn point(
         &mut self,
-        line: u64,
         point: u64,
         consumption: u64,
         share: u64,
     ) -> Result<(), AllocError>
-        ensures { OnOk result (Adds self.old self.new (point_line self.old.csv line point consumption share)) }
+        ensures { OnOk result (Adds self.old self.new (point_line self.old.csv self.old.line point consumption share)) }
     {
-        put_number(&mut self.bytes, line)?;
+        put_number(&mut self.bytes, self.line)?;
         self.field("point", point)?;
         self.field("consumption", consumption)?;
         self.field("share", share)?;
@@ -97,21 +108,41 @@ impl Report {
         self.signed(n)
     }
 
-    // Begins the line of a call.
-    pub(crate) fn call(&mut self, line: u64, kind: Kind) -> Result<(), AllocError> {
-        put_number(&mut self.bytes, line)?;
-        self.text(kind.word().as_bytes())
+    // The line of the call: what it was told, as fields, or why it was refused.
+    pub(crate) fn tell<T: Drop, F: FnOnce(&mut Report, T) -> Result<(), AllocError> + Drop>(
+        &mut self,
+        kind: Kind,
+        told: Result<T, Refusal>,
+        fields: F,
+    ) -> Result<(), AllocError>
+        requires { F.IsAlwaysCallable fields }
+    {
+        put_number(&mut self.bytes, self.line)?;
+        self.text(kind.word().as_bytes())?;
+        match told {
+            Ok(told) => fields(self, told)?,
+            Err(why) => self.refused(why)?,
+        }
+        self.end()
     }
 
-    // Begins a line of the closing report.
-    pub(crate) fn closing(&mut self, name: &str) -> Result<(), AllocError> {
+    // A line of the closing report.
+    pub(crate) fn closing<F: FnOnce(&mut Report) -> Result<(), AllocError> + Drop>(
+        &mut self,
+        name: &str,
+        fields: F,
+    ) -> Result<(), AllocError>
+        requires { F.IsAlwaysCallable fields }
+    {
         self.bytes.extend_from_slice(b"end")?;
-        self.text(name.as_bytes())
+        self.text(name.as_bytes())?;
+        fields(self)?;
+        self.end()
     }
 
     // The refusal, by number and in words.
     pub(crate) fn refused(&mut self, why: Refusal) -> Result<(), AllocError> {
-        self.field("refused", why.number() as u64)?;
+        self.field("refused", u64::from(why.number()))?;
         let words = why.to_string(self.heap)?;
         if self.csv {
             self.bytes.extend_from_slice(b",\"")?;

@@ -1,5 +1,8 @@
 // The slips of a journal's readings that are still open, so that a journal names them by their points.
-ghost use Rattle.std.specs.Prelude.{◌≡◌, ◌<◌, All, IfErr, IfSome, vec_len, vec_capacity, OnSome};
+ghost use Rattle.std.specs.Prelude.{◌≡◌, ◌<◌, All, Err, IfErr, IfSome, vec_len, vec_capacity, OnSome};
+ghost use Rattle.std.specs.List.Sorted.{IsSearchInRange};
+ghost use Rattle.ledger.specs.declared.slip.Slip.{Slip};
+ghost use Rattle.refusals.specs.declared.Refused.{Refused};
 ghost use Rattle.player.specs.Slips.{Made};
 
 use crate::station::Station;
@@ -19,7 +22,8 @@ const GIVEN: Particulars = Particulars {
     scale_factor: 0,
 };
 
-// A point has at most one open slip.
+// A point has at most one open slip. They stand by their points in a Vec and not in a map, which may have no memory for a slip that
+// a refusal hands back, and a slip cannot be let go.
 pub struct Slips {
     open: Vec<Slip>,
     ghost made: { All Made open.items },
@@ -35,24 +39,20 @@ impl Slips {
         }
     }
 
-    // Where the point's slip lies.
-    fn place(&self, point: usize) -> Option<usize> {
-        for (i, slip) in self.open.iter().enumerate() {
-            if slip.point() == point {
-                return Some(i);
-            }
-        }
-        None
+    // The open slips, by their points.
+    pub(crate) fn as_slice(&self) -> &[Slip]
+        ensures { result.now ≡ self.now.open.items }
+    {
+        self.open.as_slice()
     }
 
-    // The number of the point's open slip.
-    pub(crate) fn number(&self, point: usize) -> Option<u32> {
-        for slip in self.open.iter() {
-            if slip.point() == point {
-                return Some(slip.number());
-            }
-        }
-        None
+    // Where the point's slip stands, or would stand.
+    fn place(&self, point: usize) -> Result<usize, usize>
+        ensures { IsSearchInRange result (vec_len self.now.open) }
+    {
+        self.open
+            .as_slice()
+            .binary_search_by_key(&point, |slip| slip.point())
     }
 
     // Takes the point's slip out; a place is then free for it.
@@ -61,8 +61,40 @@ impl Slips {
         ensures made { IfSome result Made }
     {
         match self.place(point) {
-            Some(i) if i < self.open.len() => Some(self.open.remove(i)),
-            _ => None,
+            Ok(place) => Some(self.open.remove(place)),
+            Err(_) => None,
+        }
+    }
+
+    // Puts a slip in its place.
+    fn put(&mut self, slip: Slip)
+        requires room { vec_len self.old.open < vec_capacity self.old.open }
+        requires made { Made slip }
+    {
+        let place = self.place(slip.point()).unwrap_or_else(|place| place);
+        match self.open.insert(place, slip) {
+            Ok(()) => {}
+            Err(_) => unreachable(),
+        }
+    }
+
+    // Makes a call with the point's slip, which stays open where the call is refused.
+    fn with_slip<T, F: FnOnce(Slip) -> Result<T, Refused<Slip>> + Drop>(
+        &mut self,
+        point: usize,
+        none: Refusal,
+        call: F,
+    ) -> Result<T, Refusal>
+        requires called { F.IsAlwaysCallable call }
+        requires back { (s : Slip) (e : Refused Slip) → F.post call s (Err e) → e.given ≡ s }
+    {
+        let slip = self.take(point).ok_or(none)?;
+        match call(slip) {
+            Ok(told) => Ok(told),
+            Err(Refused { why, given }) => {
+                self.put(given);
+                Err(why)
+            }
         }
     }
 
@@ -74,11 +106,11 @@ impl Slips {
         point: usize,
         reading: u32,
     ) -> Result<Result<u32, Refusal>, AllocError> {
-        self.open.reserve(2)?;
+        self.open.reserve(1)?;
         match station.read(sheet, point, reading) {
             Ok(slip) => {
                 let number = slip.number();
-                self.open.push_reserved(slip);
+                self.put(slip);
                 Ok(Ok(number))
             }
             Err(why) => Ok(Err(why)),
@@ -92,16 +124,8 @@ impl Slips {
         sheet: &mut [Point],
         point: usize,
     ) -> Result<i64, Refusal> {
-        let Some(slip) = self.take(point) else {
-            return Err(no_slip(station.ledger(), sheet.len(), point));
-        };
-        match station.book(sheet, slip) {
-            Ok(correction) => Ok(correction),
-            Err(Refused { why, given }) => {
-                self.open.push_reserved(given);
-                Err(why)
-            }
-        }
+        let none = no_slip(station.ledger(), sheet.len(), point);
+        self.with_slip(point, none, |slip| station.book(sheet, slip))
     }
 
     // Hands the point of an open slip over: the correction.
@@ -112,19 +136,12 @@ impl Slips {
         point: usize,
         trader: u32,
     ) -> Result<i64, Refusal> {
-        let Some(slip) = self.take(point) else {
-            if sheet.len() <= MAX_PLACES && trader >= station.ledger().counts().traders {
-                return Err(Refusal::NoSuchTrader);
-            }
-            return Err(no_slip(station.ledger(), sheet.len(), point));
+        let none = if sheet.len() <= MAX_PLACES && trader >= station.ledger().counts().traders {
+            Refusal::NoSuchTrader
+        } else {
+            no_slip(station.ledger(), sheet.len(), point)
         };
-        match station.hand_over(sheet, slip, trader) {
-            Ok(correction) => Ok(correction),
-            Err(Refused { why, given }) => {
-                self.open.push_reserved(given);
-                Err(why)
-            }
-        }
+        self.with_slip(point, none, |slip| station.hand_over(sheet, slip, trader))
     }
 
     // Withdraws the point's open slip: its number.
@@ -134,17 +151,12 @@ impl Slips {
         sheet: &mut [Point],
         point: usize,
     ) -> Result<u32, Refusal> {
-        let Some(slip) = self.take(point) else {
-            return Err(no_slip(ledger, sheet.len(), point));
-        };
-        let number = slip.number();
-        match ledger.withdraw(sheet, slip) {
-            Ok(()) => Ok(number),
-            Err(Refused { why, given }) => {
-                self.open.push_reserved(given);
-                Err(why)
-            }
-        }
+        let none = no_slip(ledger, sheet.len(), point);
+        self.with_slip(point, none, |slip| {
+            let number = slip.number();
+            ledger.withdraw(sheet, slip)?;
+            Ok(number)
+        })
     }
 
     // Withdraws every slip that is still open. The ledger refuses none of its own; a slip that it did refuse comes back, since none can be let go.

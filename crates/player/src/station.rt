@@ -6,10 +6,12 @@ ghost use Rattle.ledger.specs.Readings.{read_answer, read_book, read_sheet, book
 ghost use Rattle.player.specs.Running.{tied, open_day, opened, measured, entry_told, abandon_told, abandoned, shared_told, on_measured};
 ghost use Rattle.ledger.specs.Sharing.{share_answer, share_book, share_sheet, share_shares};
 
+use crate::sheets::Sheets;
 use ledger::{Ledger, MeasuredDay, OpenDay, Particulars, Point, Refused, SharedOut, Slip};
 use profiles::{Profile, Weather};
 use refusals::Refusal;
 use shares::ShareRule;
+use std::mem::replace;
 
 // The running day.
 pub enum Running {
@@ -107,34 +109,19 @@ impl Station {
     }
 
     // Opens a day: its number by openings.
-    pub(crate) fn open(self, weather: Weather) -> (Station, Result<u32, Refusal>)
-        ensures answer { result.1 ≡ opened (open_answer self.ledger.book weather.temperature weather.season) }
-        ensures state { result.0.ledger.book ≡ open_book self.ledger.book weather.temperature weather.season }
+    pub(crate) fn open(&mut self, weather: Weather) -> Result<u32, Refusal>
+        ensures answer { result ≡ opened (open_answer self.old.ledger.book weather.temperature weather.season) }
+        ensures state { self.new.ledger.book ≡ open_book self.old.ledger.book weather.temperature weather.season }
     {
-        let Station {
-            mut ledger,
-            running,
-        } = self;
-        match running {
-            Running::Idle => match ledger.open(weather) {
-                Ok(day) => {
-                    let number = day.number();
-                    let running = Running::Open(day);
-                    (Station { ledger, running }, Ok(number))
-                }
-                Err(why) => {
-                    let running = Running::Idle;
-                    (Station { ledger, running }, Err(why))
-                }
-            },
-            running => {
-                let why = if weather.is_in_range() {
-                    Refusal::DayRunning
-                } else {
-                    Refusal::Weather
-                };
-                (Station { ledger, running }, Err(why))
+        match &self.running {
+            Running::Idle => {
+                let day = self.ledger.open(weather)?;
+                let number = day.number();
+                begin(&mut self.running, Running::Open(day));
+                Ok(number)
             }
+            _ if weather.is_in_range() => Err(Refusal::DayRunning),
+            _ => Err(Refusal::Weather),
         }
     }
 
@@ -145,147 +132,119 @@ impl Station {
         ensures day { self.new.running ≡ self.old.running }
     {
         match &self.running {
-            Running::Open(day) => match self.ledger.enter(day, trader, litres) {
-                Ok(()) => self.ledger.metered(trader),
-                Err(why) => Err(why),
-            },
-            _ => {
-                if trader >= self.ledger.counts().traders {
-                    Err(Refusal::NoSuchTrader)
-                } else if litres > MAX_LITRES {
-                    Err(Refusal::Litres)
-                } else {
-                    Err(Refusal::NotRunning)
-                }
+            Running::Open(day) => {
+                self.ledger.enter(day, trader, litres)?;
+                self.ledger.metered(trader)
             }
+            _ if trader >= self.ledger.counts().traders => Err(Refusal::NoSuchTrader),
+            _ if litres > MAX_LITRES => Err(Refusal::Litres),
+            _ => Err(Refusal::NotRunning),
         }
     }
 
     // Takes the open day's inflow: its number by openings.
-    pub(crate) fn take_inflow(self, litres: u64, rate: u32) -> (Station, Result<u32, Refusal>)
-        ensures answer { result.1 ≡ measured (inflow_answer self.ledger.book (open_day self.running) litres rate) }
-        ensures state { result.0.ledger.book ≡ inflow_book self.ledger.book (open_day self.running) litres rate }
+    pub(crate) fn take_inflow(&mut self, litres: u64, rate: u32) -> Result<u32, Refusal>
+        ensures answer { result ≡ measured (inflow_answer self.old.ledger.book (open_day self.old.running) litres rate) }
+        ensures state { self.new.ledger.book ≡ inflow_book self.old.ledger.book (open_day self.old.running) litres rate }
     {
-        let Station {
-            mut ledger,
-            running,
-        } = self;
-        match running {
+        let (running, told) = match replace(&mut self.running, Running::Idle) {
             Running::Open(day) => {
                 let number = day.number();
-                match ledger.take_inflow(day, litres, rate) {
-                    Ok(day) => {
-                        let running = Running::Measured(day);
-                        (Station { ledger, running }, Ok(number))
-                    }
-                    Err(back) => {
-                        let Refused { why, given } = back;
-                        let running = Running::Open(given);
-                        (Station { ledger, running }, Err(why))
-                    }
+                match self.ledger.take_inflow(day, litres, rate) {
+                    Ok(day) => (Running::Measured(day), Ok(number)),
+                    Err(Refused { why, given }) => (Running::Open(given), Err(why)),
                 }
             }
-            running => {
-                let why = if litres > MAX_LITRES || rate > MAX_RATE {
-                    Refusal::Litres
-                } else {
-                    Refusal::NotRunning
-                };
-                (Station { ledger, running }, Err(why))
-            }
-        }
+            running if litres > MAX_LITRES || rate > MAX_RATE => (running, Err(Refusal::Litres)),
+            running => (running, Err(Refusal::NotRunning)),
+        };
+        begin(&mut self.running, running);
+        told
     }
 
     // Shares the measured day out.
     pub(crate) fn share<P: Profile, R: ShareRule>(
-        self,
-        sheet: &mut [Point],
+        &mut self,
         profile: &P,
         rule: &R,
-        uses: &mut [u64],
-        shares: &mut [u64],
-    ) -> (Station, Result<SharedOut, Refusal>)
-        ensures answer { result.1 ≡ shared_told self.running (length sheet.old) (λ d. share_answer self.ledger.book d sheet.old (P.Profile.tells profile.now) P.Profile.SEGMENTS (length uses.old) (length shares.old)) }
-        ensures state { result.0.ledger.book ≡ on_measured self.running self.ledger.book (λ d. share_book self.ledger.book d sheet.old (P.Profile.tells profile.now) R.ShareRule.shares P.Profile.SEGMENTS (length uses.old) (length shares.old)) }
-        ensures rows { sheet.new ≡ on_measured self.running sheet.old (λ d. share_sheet self.ledger.book d sheet.old (P.Profile.tells profile.now) R.ShareRule.shares P.Profile.SEGMENTS (length uses.old) (length shares.old)) }
-        ensures given { shares.new ≡ on_measured self.running shares.old (λ d. share_shares self.ledger.book d sheet.old (P.Profile.tells profile.now) R.ShareRule.shares P.Profile.SEGMENTS (length uses.old) shares.old) }
+        sheets: &mut Sheets,
+    ) -> Result<SharedOut, Refusal>
+        ensures answer { result ≡ shared_told self.old.running (length sheets.old.points.items) (λ d. share_answer self.old.ledger.book d sheets.old.points.items (P.Profile.tells profile.now) P.Profile.SEGMENTS (length sheets.old.uses.items) (length sheets.old.shares.items)) }
+        ensures state { self.new.ledger.book ≡ on_measured self.old.running self.old.ledger.book (λ d. share_book self.old.ledger.book d sheets.old.points.items (P.Profile.tells profile.now) R.ShareRule.shares P.Profile.SEGMENTS (length sheets.old.uses.items) (length sheets.old.shares.items)) }
+        ensures rows { sheets.new.points.items ≡ on_measured self.old.running sheets.old.points.items (λ d. share_sheet self.old.ledger.book d sheets.old.points.items (P.Profile.tells profile.now) R.ShareRule.shares P.Profile.SEGMENTS (length sheets.old.uses.items) (length sheets.old.shares.items)) }
+        ensures given { sheets.new.shares.items ≡ on_measured self.old.running sheets.old.shares.items (λ d. share_shares self.old.ledger.book d sheets.old.points.items (P.Profile.tells profile.now) R.ShareRule.shares P.Profile.SEGMENTS (length sheets.old.uses.items) sheets.old.shares.items) }
     {
-        let Station {
-            mut ledger,
-            running,
-        } = self;
-        match running {
-            Running::Measured(day) => match ledger.share_out(
-                day, sheet, profile, rule, uses, shares,
+        match replace(&mut self.running, Running::Idle) {
+            Running::Measured(day) => match self.ledger.share_out(
+                day,
+                sheets.points.as_mut_slice(),
+                profile,
+                rule,
+                sheets.uses.as_mut_slice(),
+                sheets.shares.as_mut_slice(),
             ) {
-                Ok(told) => {
-                    let running = Running::Idle;
-                    (Station { ledger, running }, Ok(told))
-                }
-                Err(back) => {
-                    let Refused { why, given } = back;
-                    let running = Running::Measured(given);
-                    (Station { ledger, running }, Err(why))
+                Ok(told) => Ok(told),
+                Err(Refused { why, given }) => {
+                    begin(&mut self.running, Running::Measured(given));
+                    Err(why)
                 }
             },
             running => {
-                let why = if sheet.len() > MAX_PLACES {
+                begin(&mut self.running, running);
+                Err(if sheets.points.len() > MAX_PLACES {
                     Refusal::PointSheetLength
                 } else {
                     Refusal::NotRunning
-                };
-                (Station { ledger, running }, Err(why))
+                })
             }
         }
     }
 
     // Ends the running day: its number by openings.
-    pub(crate) fn abandon(self) -> (Station, Result<u32, Refusal>)
-        ensures answer { result.1 ≡ abandon_told self.running }
-        ensures state { result.0.ledger.book ≡ abandoned self.ledger.book self.running }
-        ensures idle { result.0.running ≡ Running.Idle }
+    pub(crate) fn abandon(&mut self) -> Result<u32, Refusal>
+        ensures answer { result ≡ abandon_told self.old.running }
+        ensures state { self.new.ledger.book ≡ abandoned self.old.ledger.book self.old.running }
+        ensures idle { self.new.running ≡ Running.Idle }
     {
-        let Station {
-            mut ledger,
-            running,
-        } = self;
-        match running {
-            Running::Idle => {
-                let running = Running::Idle;
-                (Station { ledger, running }, Err(Refusal::NotRunning))
-            }
+        match replace(&mut self.running, Running::Idle) {
+            Running::Idle => Err(Refusal::NotRunning),
             Running::Open(day) => {
                 let number = day.number();
-                match ledger.abandon_open(day) {
-                    Ok(()) => {
-                        let running = Running::Idle;
-                        (Station { ledger, running }, Ok(number))
-                    }
-                    Err(back) => unreachable(),
+                match self.ledger.abandon_open(day) {
+                    Ok(()) => Ok(number),
+                    Err(_) => unreachable(),
                 }
             }
             Running::Measured(day) => {
                 let number = day.number();
-                match ledger.abandon_measured(day) {
-                    Ok(()) => {
-                        let running = Running::Idle;
-                        (Station { ledger, running }, Ok(number))
-                    }
-                    Err(back) => unreachable(),
+                match self.ledger.abandon_measured(day) {
+                    Ok(()) => Ok(number),
+                    Err(_) => unreachable(),
                 }
             }
         }
     }
 
     // The ledger, its running day ended.
-    pub fn close(self) -> Ledger
+    pub fn close(mut self) -> Ledger
         ensures { result.book ≡ abandoned self.ledger.book self.running }
     {
-        let (station, _) = self.abandon();
-        let Station { ledger, running } = station;
+        let _told = self.abandon();
+        let Station { ledger, running } = self;
         match running {
             Running::Idle => ledger,
             _ => unreachable(),
         }
+    }
+}
+
+// Lets a day run where none does.
+fn begin(running: &mut Running, day: Running)
+    requires { running.old ≡ Running.Idle }
+    ensures { running.new ≡ day }
+{
+    match replace(running, day) {
+        Running::Idle => {}
+        _ => unreachable(),
     }
 }

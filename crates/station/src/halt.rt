@@ -1,41 +1,45 @@
 // Why the playing of a journal stopped.
 use journal::fault::Fault;
+use journal::lines::SheetFault;
 use player::slips::Slips;
 use player::trouble::Trouble;
-use std::fmt::Display;
-use std::{fmt, io};
+use std::alloc::AllocError;
+use std::io;
+use thiserror::Error;
 
-#[derive(Clone, Copy)]
+#[derive(Clone, Copy, Debug, Error)]
 pub enum Halt {
-    None,
+    #[error("no call: a journal begins with `ledger DAY`; `station --help` says more")]
     Empty,
-    Line(Fault),
-    Place(Trouble),
+    #[error("{0}")]
+    Line(#[from] Fault),
+    #[error("{0}")]
+    Place(#[from] Trouble),
+    #[error("the file's name is not UTF-8 text")]
     FileName,
+    #[error("there is no such file; it is looked for from the journal's folder")]
     NoFile,
+    #[error("the file cannot be read")]
     Unreadable,
+    #[error("line {line} of the file: {fault}")]
     Sheet { line: u64, fault: Fault },
+    #[error("no memory left")]
     Memory,
+    #[error("standard output cannot be written")]
     Output,
 }
 
-impl fmt::Display for Halt {
-    fn fmt<W: fmt::Write>(&self, f: &mut fmt::Formatter<W>) -> fmt::Result {
-        match self {
-            Halt::None => Ok(()),
-            Halt::Empty => f.write_str(
-                "no call: a journal begins with `ledger DAY`; `station --help` says more",
-            ),
-            Halt::Line(fault) => fault.fmt(f),
-            Halt::Place(trouble) => trouble.fmt(f),
-            Halt::FileName => f.write_str("the file's name is not UTF-8 text"),
-            Halt::NoFile => f.write_str(
-                "there is no such file; it is looked for from the journal's folder",
-            ),
-            Halt::Unreadable => f.write_str("the file cannot be read"),
-            Halt::Sheet { line, fault } => write!(f, "line {line} of the file: {fault}"),
-            Halt::Memory => f.write_str("no memory left"),
-            Halt::Output => f.write_str("standard output cannot be written"),
+impl From<AllocError> for Halt {
+    fn from(_e: AllocError) -> Halt {
+        Halt::Memory
+    }
+}
+
+impl From<SheetFault> for Halt {
+    fn from(e: SheetFault) -> Halt {
+        match e {
+            SheetFault::Memory => Halt::Memory,
+            SheetFault::Malformed { line, fault } => Halt::Sheet { line, fault },
         }
     }
 }
@@ -56,5 +60,11 @@ impl From<anyhow::Error> for Stop {
 impl From<io::Error> for Stop {
     fn from(e: io::Error) -> Stop {
         Stop::Error(e.into())
+    }
+}
+
+impl From<Slips> for Stop {
+    fn from(slips: Slips) -> Stop {
+        Stop::Unended(slips)
     }
 }

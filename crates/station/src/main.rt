@@ -3,11 +3,12 @@
 
 mod halt;
 mod help;
+mod lines;
 mod session;
 
 use halt::{Halt, Stop};
 use help::{HELP, MAKE_ONE};
-use session::{Played, play};
+use session::{Stopped, play};
 use std::alloc::Global;
 use std::io::{ErrorKind, Read, Write};
 use std::process::{ExitCode, Termination};
@@ -18,41 +19,38 @@ const LONGEST: usize = 200;
 
 // What the command line asks for.
 #[derive(Drop)]
-struct Asked {
-    help: bool,
-    csv: bool,
-    wrong: bool,
-    path: Option<String>,
+enum Asked {
+    Help,
+    Wrong,
+    Play { csv: bool, path: Option<String> },
+}
+
+impl Asked {
+    // What is asked for with one argument more: help before all else, and what is wrong stays so.
+    fn with(self, arg: String) -> Asked {
+        match (self, arg.as_str()) {
+            (Asked::Help, _) | (_, "--help" | "-h") => Asked::Help,
+            (Asked::Wrong, _) => Asked::Wrong,
+            (Asked::Play { csv: _, path }, "--csv") => Asked::Play { csv: true, path },
+            (play, "-") => play,
+            (Asked::Play { csv, path: None }, name) if !name.starts_with('-') => Asked::Play {
+                csv,
+                path: Some(arg),
+            },
+            _ => Asked::Wrong,
+        }
+    }
 }
 
 fn read_args(rt: &HostRuntime) -> anyhow::Result<Asked> {
-    let mut asked = Asked {
-        help: false,
+    let mut asked = Asked::Play {
         csv: false,
-        wrong: false,
         path: None,
     };
-    let mut args = env::args(rt)?;
-    let _program = args.next();
-    for arg in args {
-        match arg.as_str() {
-            "--help" | "-h" => asked.help = true,
-            "--csv" => asked.csv = true,
-            "-" => {}
-            _ => {
-                asked.wrong = asked.wrong || asked.path.is_some() || arg.as_str().starts_with('-');
-                asked.path = Some(arg);
-            }
-        }
+    for arg in env::args(rt)?.skip(1) {
+        asked = asked.with(arg);
     }
     Ok(asked)
-}
-
-fn file_name(path: &Option<String>) -> &str {
-    match path {
-        Some(path) => path.as_str(),
-        None => "standard input",
-    }
 }
 
 // A line as it can be shown: not too long, and with a mark in place of what is no text.
@@ -68,14 +66,13 @@ fn shown(heap: Global, line: &[u8]) -> anyhow::Result<Vec<u8>> {
 }
 
 // Tells where the journal stopped: the file, the line, the line itself and the reason.
-fn complain(rt: &HostRuntime, file: &str, played: Played<'_>) -> anyhow::Result<()> {
-    let heap = rt.alloc();
-    let line = played.line;
-    let why = played.halt;
+fn complain(rt: &HostRuntime, path: Option<&str>, stopped: Stopped<'_>) -> anyhow::Result<()> {
+    let file = path.unwrap_or("standard input");
+    let Stopped { line, text, why } = stopped;
     match why {
         Halt::Empty => eprintln!(rt; "station: {file}: {why}")?,
         _ => {
-            let text = shown(heap, played.text)?;
+            let text = shown(rt.alloc(), text)?;
             eprintln!(rt; "station: {file}:{line}: {why}")?;
             rt.stderr().write_all(text.as_slice())?;
         }
@@ -84,57 +81,57 @@ fn complain(rt: &HostRuntime, file: &str, played: Played<'_>) -> anyhow::Result<
 }
 
 // The journal's bytes, or `None` once it was told why there are none.
-fn read_journal(rt: &HostRuntime, path: &Option<String>) -> anyhow::Result<Option<Vec<u8>>> {
-    match path {
-        None => {
-            let mut text = Vec::new(rt.alloc());
-            rt.stdin().read_to_end(&mut text)?;
-            Ok(Some(text))
-        }
-        Some(path) => match fs::read(rt, path.as_str()) {
-            Ok(text) => Ok(Some(text)),
-            Err(e) => {
-                let path = path.as_str();
-                eprintln!(rt; "station: {path}: {e}")?;
-                if let ErrorKind::NotFound = e.kind() {
-                    eprintln!(rt; "{MAKE_ONE} > {path}")?;
-                }
-                Ok(None)
+fn read_journal(rt: &HostRuntime, path: Option<&str>) -> anyhow::Result<Option<Vec<u8>>> {
+    let Some(path) = path else {
+        let mut text = Vec::new(rt.alloc());
+        rt.stdin().read_to_end(&mut text)?;
+        return Ok(Some(text));
+    };
+    match fs::read(rt, path) {
+        Ok(text) => Ok(Some(text)),
+        Err(e) => {
+            eprintln!(rt; "station: {path}: {e}")?;
+            if let ErrorKind::NotFound = e.kind() {
+                eprintln!(rt; "{MAKE_ONE} > {path}")?;
             }
-        },
+            Ok(None)
+        }
     }
 }
 
-// Whether the journal was played to its end.
-fn run(rt: &HostRuntime) -> Result<bool, Stop> {
-    let asked = read_args(rt)?;
-    if asked.help {
-        rt.stdout().write_all(HELP.as_bytes())?;
-        return Ok(true);
-    }
-    if asked.wrong {
-        eprintln!(rt;
-            "station: one journal, or none for standard input; `station --help` says more"
-        )?;
-        return Ok(false);
-    }
-    let Some(text) = read_journal(rt, &asked.path)? else {
-        return Ok(false);
+// Plays the journal of a file, or of standard input.
+fn play_file(rt: &HostRuntime, path: Option<&str>, csv: bool) -> Result<ExitCode, Stop> {
+    let Some(text) = read_journal(rt, path)? else {
+        return Ok(ExitCode::FAILURE);
     };
-    let played = play(rt, &asked.path, text.as_slice(), asked.csv)?;
-    match played.halt {
-        Halt::None => Ok(true),
-        _ => {
-            complain(rt, file_name(&asked.path), played)?;
-            Ok(false)
+    match play(rt, path, text.as_slice(), csv)? {
+        Ok(()) => Ok(ExitCode::SUCCESS),
+        Err(stopped) => {
+            complain(rt, path, stopped)?;
+            Ok(ExitCode::FAILURE)
         }
+    }
+}
+
+fn run(rt: &HostRuntime) -> Result<ExitCode, Stop> {
+    match read_args(rt)? {
+        Asked::Help => {
+            rt.stdout().write_all(HELP.as_bytes())?;
+            Ok(ExitCode::SUCCESS)
+        }
+        Asked::Wrong => {
+            eprintln!(rt;
+                "station: one journal, or none for standard input; `station --help` says more"
+            )?;
+            Ok(ExitCode::FAILURE)
+        }
+        Asked::Play { csv, path } => play_file(rt, path.as_deref(), csv),
     }
 }
 
 fn main(rt: HostRuntime) -> ExitCode {
     match run(&rt) {
-        Ok(true) => ExitCode::SUCCESS,
-        Ok(false) => ExitCode::FAILURE,
+        Ok(code) => code,
         Err(Stop::Error(e)) => {
             let told: anyhow::Result<()> = Err(e);
             told.report(&rt)

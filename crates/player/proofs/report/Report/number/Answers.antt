@@ -6,4 +6,4 @@ use Rattle.player.proofs.report.Report.number.Goals as goal
 pub returns : goal.returns
 returns c =
     both c.put_number.result c.args.self.now c.separate.new.self _ (separator c.args.self.now.csv ∷ []) (λ _. decimal c.args.n) c.in_ok-separate.ensures
-    (written c.put_number.result c.separate.new.self _ (decimal c.args.n) c.put_number.ensures refl)
+    (written c.put_number.result c.separate.new.self _ (decimal c.args.n) c.put_number.ensures refl refl)
