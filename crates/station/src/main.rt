@@ -3,7 +3,6 @@
 
 mod halt;
 mod help;
-mod lines;
 mod session;
 
 use halt::{Halt, Stop};

@@ -1,8 +1,7 @@
 // The lines of a journal, one after the other.
 use crate::halt::Halt;
-use crate::lines::Lines;
 use journal::call::{Call, parse};
-use journal::lines::read_sheet;
+use journal::lines::{Lines, read_sheet};
 use journal::words::{split, uncommented};
 use player::player::Player;
 use player::report::Report;
