@@ -1,6 +1,5 @@
 -- A day's token that a call gave or handed back is that of the ledger's running day.
-use Rattle.std.proofs.Common.{◌≡◌, ℕ, true, List, ℤ, Some, None, Ok, Err, Option, Result, sym, refl, ◌∙◌, subst, arith}
-use Rattle.std.proofs.lemmas.Bool.{eq-eqb}
+use Rattle.std.proofs.Common.{◌≡◌, ℕ, true, List, Some, None, Ok, Err, Option, Result, sym, ◌∙◌, subst, arith}
 use Rattle.refusals.specs.declared.Refusal.{Refusal}
 use Rattle.ledger.specs.declared.book.Book.{Book}
 use Rattle.ledger.specs.declared.day.OpenDay.{OpenDay}
@@ -8,8 +7,8 @@ use Rattle.ledger.specs.declared.day.MeasuredDay.{MeasuredDay}
 use Rattle.refusals.specs.declared.Refused.{Refused}
 use Rattle.ledger.specs.declared.day.SharedOut.{SharedOut}
 use Rattle.ledger.specs.declared.point.Point.{Point}
-use Rattle.ledger.specs.Grounds.{answered, handed_back, unless}
-use Rattle.ledger.specs.Days.{is_open, is_measured, open_fault, open_answer, open_book, enter_fault, enter_book, inflow_fault, inflow_answer, inflow_book}
+use Rattle.ledger.specs.Grounds.{handed_back, unless}
+use Rattle.ledger.specs.Days.{is_open, is_measured, enter_fault, enter_book, inflow_fault, inflow_answer, inflow_book}
 use Rattle.ledger.specs.Sharing.{Tells, Rule, share_fault, share_answer, share_book}
 use Rattle.ledger.proofs.Grounds.{by_unless}
 

@@ -45,14 +45,8 @@ struct Case<'a> {
 
 impl Case<'_> {
     // The line of one rule.
-    fn line<R: ShareRule>(
-        &self,
-        heap: Global,
-        page: &mut Page,
-        name: &str,
-        rule: &R,
-    ) -> anyhow::Result<()> {
-        let mut shares = vec![in heap; 0u64; self.weights.len()]?;
+    fn line<R: ShareRule>(&self, page: &mut Page, name: &str, rule: &R) -> anyhow::Result<()> {
+        let mut shares = vec![in page.heap; 0u64; self.weights.len()]?;
         rule.share(self.quantity, self.weights, shares.as_mut_slice());
         page.begin(name)?;
         page.number(self.quantity)?;
@@ -63,9 +57,9 @@ impl Case<'_> {
         Ok(())
     }
 
-    fn lines(&self, heap: Global, page: &mut Page) -> anyhow::Result<()> {
-        self.line(heap, page, "running", &Running)?;
-        self.line(heap, page, "largest", &LargestRemainder)
+    fn lines(&self, page: &mut Page) -> anyhow::Result<()> {
+        self.line(page, "running", &Running)?;
+        self.line(page, "largest", &LargestRemainder)
     }
 }
 
@@ -89,18 +83,18 @@ const SMALL: [Case<'static>; 4] = [
     },
 ];
 
-pub(crate) fn case_lines(heap: Global, page: &mut Page) -> anyhow::Result<()> {
+pub(crate) fn case_lines(page: &mut Page) -> anyhow::Result<()> {
     let mut draws = Draws { state: 2009 };
     for _ in 0..CASES {
-        let weights = draws.weights(heap)?;
+        let weights = draws.weights(page.heap)?;
         let case = Case {
             quantity: draws.draw() % 1_000_000_001,
             weights: weights.as_slice(),
         };
-        case.lines(heap, page)?;
+        case.lines(page)?;
     }
     for case in &SMALL {
-        case.lines(heap, page)?;
+        case.lines(page)?;
     }
     Ok(())
 }

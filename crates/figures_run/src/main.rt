@@ -28,9 +28,9 @@ fn listing(rt: &HostRuntime, path: &str) -> anyhow::Result<Page> {
     let mut table = TableProfile::new();
     table.fill(numbers_of(heap, text.as_str())?.as_slice())?;
     let mut page = Page::new(heap);
-    table_lines(heap, &mut page, &table)?;
-    layer_lines(heap, &mut page, table)?;
-    case_lines(heap, &mut page)?;
+    table_lines(&mut page, &table)?;
+    layer_lines(&mut page, table)?;
+    case_lines(&mut page)?;
     day_lines(&mut page, "running", &Running)?;
     day_lines(&mut page, "largest", &LargestRemainder)?;
     Ok(page)

@@ -5,12 +5,14 @@ use std::fmt::Write;
 
 #[derive(Drop)]
 pub(crate) struct Page {
+    pub(crate) heap: Global,
     text: String,
 }
 
 impl Page {
     pub(crate) fn new(heap: Global) -> Page {
         Page {
+            heap,
             text: String::new(heap),
         }
     }

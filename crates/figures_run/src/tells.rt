@@ -38,12 +38,8 @@ fn table_line(page: &mut Page, table: &TableProfile, segment: u32, t: i16) -> fm
 }
 
 // Both segments at each of the temperatures.
-pub(crate) fn table_lines(
-    heap: Global,
-    page: &mut Page,
-    table: &TableProfile,
-) -> anyhow::Result<()> {
-    let temperatures = temperatures(heap)?;
+pub(crate) fn table_lines(page: &mut Page, table: &TableProfile) -> anyhow::Result<()> {
+    let temperatures = temperatures(page.heap)?;
     for segment in 0..TableProfile::SEGMENTS {
         for t in temperatures.iter() {
             table_line(page, table, segment, *t)?;
@@ -78,13 +74,9 @@ fn layer_line<P: Profile>(
 }
 
 // A layer over the table, in each season: both segments, and one that the table does not serve.
-pub(crate) fn layer_lines(
-    heap: Global,
-    page: &mut Page,
-    table: TableProfile,
-) -> anyhow::Result<()> {
+pub(crate) fn layer_lines(page: &mut Page, table: TableProfile) -> anyhow::Result<()> {
     let mut layer = SeasonLayer::new(table, LAYER_SEGMENT).map_err(|back| back.why)?;
-    layer.fill(season_numbers(heap)?.as_slice())?;
+    layer.fill(season_numbers(page.heap)?.as_slice())?;
     for segment in 0..=TableProfile::SEGMENTS {
         for season in 0..4u8 {
             for temperature in LAYER_TEMPERATURES {
