@@ -1,9 +1,9 @@
 -- A share-out from the facts of its steps: what was asked, weighed, divided, credited and settled.
-use Rattle.std.proofs.Common.{◌≡◌, ℕ, zero, suc, ◌+◌, ◌<◌, ◌≤◌, true, false, cond, ◌&&◌, eqb, ltb, List, [], ◌∷◌, ◌++◌, map, length, get_or, take, drop, set, replicate, pos, Some, None, Ok, Err, sum, Option, Result, sym, refl, ap, ◌∙◌, subst, arith}
+use Rattle.std.proofs.Common.{◌≡◌, ℕ, zero, suc, ◌+◌, ◌<◌, ◌≤◌, Bool, true, false, cond, not, ◌&&◌, eqb, leb, ltb, List, [], ◌∷◌, ◌++◌, map, length, get_or, take, drop, set, replicate, pos, Some, None, Ok, Err, sum, Option, Result, sym, refl, ap, ◌∙◌, subst, arith}
 use Rattle.std.specs.List.{range_with_len}
 use Rattle.std.proofs.lemmas.List.FromFn.{get_or-map-range_with_len}
 use Rattle.std.proofs.lemmas.List.{ext_get_or, length-map, length-take-le, get_or-map, get_or-take, get_or_append_left, take_at}
-use Rattle.std.proofs.lemmas.Bool.{false≢true, cond-true, cond-false}
+use Rattle.std.proofs.lemmas.Bool.{leb-true, and_parts, false≢true, cond-true, cond-false}
 use Rattle.std.proofs.lemmas.Bool.Decides.{nat_tests}
 use Rattle.refusals.specs.declared.Refusal.{Refusal}
 use Rattle.refusals.specs.declared.Refusal.TheVariants.{ForeignSheet, NotRunning, SlipOpenAtShareOut, SegmentNotServed, NoWeight}
@@ -19,7 +19,7 @@ use Rattle.ledger.specs.declared.day.SharedOut.{SharedOut}
 use Rattle.ledger.specs.declared.point.Point.{Point}
 use Rattle.ledger.specs.Accounts.{Sound, Settling, credited_to, credited, settled, day_holds, pending, reach}
 use Rattle.ledger.specs.Days.{is_measured}
-use Rattle.ledger.specs.Grounds.{handed_back, unless}
+use Rattle.ledger.specs.Grounds.{first_ground, handed_back, unless}
 use Rattle.ledger.specs.History.{LawfulProfile, LawfulRule, Means, Goes, Shared, next}
 use Rattle.ledger.specs.Limits.{max_traders, max_litres}
 use Rattle.ledger.specs.Rows.{Shareable, row_at, no_row, sheet_fits, every, may_share, is_free, is_served, factors_at, profile_use, profile_uses, shared_row, shared_rows}
@@ -28,7 +28,7 @@ use Rattle.ledger.proofs.Accepted.{sharable}
 use Rattle.ledger.proofs.Crediting.{settling}
 use Rattle.ledger.proofs.Keep.{shares_within, shared_sound}
 use Rattle.ledger.proofs.Ranges.{shareable}
-use Rattle.ledger.proofs.Rows.{every_at, shared_rows_part}
+use Rattle.ledger.proofs.Rows.{every_at, tested, shared_rows_part}
 use Rattle.ledger.proofs.Traders.{near_more, sum_cons, credited_to_part}
 
 -- lists by their first places
@@ -122,21 +122,21 @@ length-uses l s tells-of h = length-map (take l.counts.points s) _ ∙ length-ta
 
 -- Testing the rows: which ground of a share-out is met, by what the tests of all rows told.
 
-module _ (l : Book) (day : MeasuredDay) (s : List Point) (segments uses shares : ℕ) (fits : sheet_fits l.counts.points s ≡ true) (u : l.counts.points ≤ uses) (h : l.counts.points ≤ shares) where
-  pub foreign : every (may_share l.counts.traders) s l.counts.points ≡ false → share_grounds l day s segments uses shares ≡ Some ForeignSheet
-  foreign a = grind (arith, nat_tests)
-
-  pub not_running : every (may_share l.counts.traders) s l.counts.points ≡ true → is_measured l.phase day.number ≡ false → share_grounds l day s segments uses shares ≡ Some NotRunning
-  not_running a b = grind (arith, nat_tests)
-
-  pub slip_open : every (may_share l.counts.traders) s l.counts.points ≡ true → is_measured l.phase day.number ≡ true → every is_free s l.counts.points ≡ false → share_grounds l day s segments uses shares ≡ Some SlipOpenAtShareOut
-  slip_open a b c = grind (arith, nat_tests)
-
-  pub not_served : every (may_share l.counts.traders) s l.counts.points ≡ true → is_measured l.phase day.number ≡ true → every is_free s l.counts.points ≡ true → every (is_served segments) s l.counts.points ≡ false → share_grounds l day s segments uses shares ≡ Some SegmentNotServed
-  not_served a b c d = grind (arith, nat_tests)
-
-  pub no_share_ground : every (may_share l.counts.traders) s l.counts.points ≡ true → is_measured l.phase day.number ≡ true → every is_free s l.counts.points ≡ true → every (is_served segments) s l.counts.points ≡ true → share_grounds l day s segments uses shares ≡ None
-  no_share_ground a b c d = grind (arith, nat_tests)
+module _ (l : Book) (day : MeasuredDay) (s rows : List Point) (segments uses shares : ℕ) (fits : sheet_fits l.counts.points s ≡ true) (e : rows ≡ take l.counts.points s)
+    (may free served : Bool) (m : may ≡ every (may_share l.counts.traders) rows (length rows)) (f : free ≡ every is_free rows (length rows)) (v : served ≡ every (is_served segments) rows (length rows))
+    (u : length rows ≤ uses) (h : length rows ≤ shares) where
+  -- the first that is met, of those that the tests tell
+  pub tests_told : share_grounds l day s segments uses shares ≡ first_ground ((not may, ForeignSheet) ∷ (not (is_measured l.phase day.number), NotRunning) ∷ (not free, SlipOpenAtShareOut) ∷ (not served, SegmentNotServed) ∷ [])
+  tests_told =
+      let n = l.counts.points in
+      let room : n ≤ length s = leb-true _ _ (and_parts (leb n (length s)) _ fits).0 in
+      let len : length rows ≡ n = ap length e ∙ length-take-le n s room in
+      let a = tested (may_share l.counts.traders) s rows n may fits e m in
+      let b = tested is_free s rows n free fits e f in
+      let c = tested (is_served segments) s rows n served fits e v in
+      let x : n ≤ uses = omega arith in
+      let y : n ≤ shares = omega arith in
+      grind (arith, nat_tests)
 
 -- Closing the day, by a rule and the weights in the first places of a work sheet.
 
