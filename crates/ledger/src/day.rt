@@ -83,7 +83,7 @@ impl Phase {
         matches!(self, Phase::Idle)
     }
 
-    // What the running day's opening took.
+    // What the running day's opening took, and noughts where no day runs, for which nobody asks.
     pub(crate) fn weather(self) -> Weather
         ensures { result ≡ sky_in self }
     {

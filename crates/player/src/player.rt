@@ -107,23 +107,7 @@ impl Player {
     ) -> Result<(), Trouble>
         ensures { of_day call.entry ≡ false → of_slip call.entry ≡ false → Plays call.entry self.old.sheets.points.items self.old.station.running self.old.station.ledger.book self.new.station.ledger.book }
     {
-        let heap = self.heap;
         match call {
-            Call::Sheet { places } => self.set_sheet(places, report),
-            Call::Table { name, .. } => self.add_profile(
-                name,
-                Recipe::table(heap, numbers),
-                report,
-            ),
-            Call::Even { name, factor } => {
-                self.add_profile(name, Recipe::even(heap, factor), report)
-            }
-            Call::Season {
-                name,
-                segment,
-                below,
-                ..
-            } => self.add_layer(name, below, Layer::new(segment, numbers), report),
             Call::Trader { name } => self.admit_trader(name.unwrap_or(b"-"), report),
             Call::Point {
                 trader,
@@ -145,6 +129,36 @@ impl Player {
             }
             Call::Enter { trader, litres } => self.enter(trader, litres, report),
             Call::Quantity { trader } => self.quantity(trader, report),
+            _ => self.set_up(call, numbers, report),
+        }
+    }
+
+    // Plays a call that only sets up a sheet or a profile.
+    fn set_up(
+        &mut self,
+        call: Call<'_>,
+        numbers: Vec<u32>,
+        report: &mut Report,
+    ) -> Result<(), Trouble>
+        ensures { self.new.station.ledger.book ≡ self.old.station.ledger.book }
+    {
+        let heap = self.heap;
+        match call {
+            Call::Sheet { places } => self.set_sheet(places, report),
+            Call::Table { name, .. } => self.add_profile(
+                name,
+                Recipe::table(heap, numbers),
+                report,
+            ),
+            Call::Even { name, factor } => {
+                self.add_profile(name, Recipe::even(heap, factor), report)
+            }
+            Call::Season {
+                name,
+                segment,
+                below,
+                ..
+            } => self.add_layer(name, below, Layer::new(segment, numbers), report),
             _ => Err(Trouble::LedgerAgain),
         }
     }

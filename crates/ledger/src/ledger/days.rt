@@ -95,7 +95,7 @@ impl Ledger {
         Ok(())
     }
 
-    // Takes the day's inflow and its loss rate in millionths.
+    // Takes the day's inflow and its loss rate in millionths: two numbers of one call, which a struct would only wrap to be unwrapped.
     pub fn take_inflow(
         &mut self,
         day: OpenDay,

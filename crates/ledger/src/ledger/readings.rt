@@ -60,6 +60,7 @@ impl Point {
         requires { in_range self.now ≡ true }
         ensures { result ≡ row_correction self.now }
     {
+        // Casts: there is no `From` of u64 for i64.
         self.kept_use() as i64 - self.open_sum as i64
     }
 
@@ -98,6 +99,7 @@ fn scale_after(scale_factor: u32, consumption: u64, period_sum: u64) -> u32
     ensures { result ≡ new_scale scale_factor consumption period_sum }
 {
     match (consumption * u64::from(WHOLE)).checked_div(period_sum) {
+        // A cast: it is proved to fit, and `try_from` would ask for a branch that never runs.
         Some(scale) => scale.min(u64::from(MAX_SCALE)) as u32,
         None => scale_factor,
     }

@@ -56,6 +56,7 @@ struct Weighed {
 fn ask<P: Profile>(profile: &P, weather: Weather) -> [Factors; 8]
     ensures { result ≡ map (λ (k : ℕ). P.Profile.tells profile.now k weather.temperature weather.season) (range_with_len 0 8) }
 {
+    // A cast: there is no `From` of usize for u32.
     array::from_fn(|segment| profile.tell(segment as u32, weather))
 }
 
@@ -193,7 +194,7 @@ impl Ledger {
     }
 
     // Shares out a measured day by a profile and a share rule. The first work sheet gets the points' profile consumptions, the
-    // second their shares.
+    // second their shares. The three sheets stay lent slices of their own, since the caller owns each (a rule of the project).
     pub fn share_out<P: Profile, R: ShareRule>(
         &mut self,
         day: MeasuredDay,
