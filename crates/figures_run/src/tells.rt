@@ -51,6 +51,7 @@ pub(crate) fn table_lines(page: &mut Page, table: &TableProfile) -> anyhow::Resu
 // Season numbers spread over all that is allowed.
 fn season_numbers(heap: Global) -> Result<Vec<u32>, AllocError> {
     let mut numbers = Vec::new(heap);
+    // A loop: what a closure knows of its place has no bound, and the product might then be too large.
     for place in 0..SEASON_NUMBERS {
         numbers.push(place * 13_127 % 20_000_001)?;
     }

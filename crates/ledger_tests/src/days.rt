@@ -8,7 +8,8 @@ use profiles::{Profile, Weather};
 use shares::ShareRule;
 use std::test::Fail;
 
-// Ends an open day that is this ledger's.
+// Ends an open day that is this ledger's. Open and measured days are ended apart, here and below: a trait over the two would have these
+// same two bodies.
 pub(crate) fn end_open(ledger: &mut Ledger, day: OpenDay)
     requires { is_open ledger.old.book.phase day.number ≡ true }
 {

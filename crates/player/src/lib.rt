@@ -2,6 +2,7 @@
 #![tactic(auto)]
 
 mod closing;
+mod named;
 pub mod player;
 mod recipe;
 pub mod report;

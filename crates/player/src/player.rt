@@ -6,6 +6,7 @@ ghost use Rattle.player.specs.Playing.{Plays, of_day, of_slip};
 ghost use Rattle.player.specs.Running.{open_day, abandoned};
 
 use crate::closing::{Closing, tell_open_slips};
+use crate::named::Profiles;
 use crate::recipe::{Layer, Recipe};
 use crate::report::Report;
 use crate::sheets::Sheets;
@@ -19,16 +20,16 @@ use profiles::Weather;
 use refusals::Refusal;
 use shares::{LargestRemainder, Running, ShareRule};
 use std::alloc::{AllocError, Global};
-use std::collections::BTreeMap;
 
 const PLACES: usize = 4096;
 
+// A journal's points are u32 and a ledger's usize, which goes by a cast: there is no `From` between them.
 pub struct Player {
     heap: Global,
     station: Station,
     slips: Slips,
     sheets: Sheets,
-    profiles: BTreeMap<Vec<u8>, Recipe>,
+    profiles: Profiles,
     // their names
     traders: Vec<Vec<u8>>,
     // of the day that was measured last, and of all days shared out
@@ -58,7 +59,7 @@ impl Player {
             station: Station::new(first_day),
             slips: Slips::new(heap),
             sheets,
-            profiles: BTreeMap::new(heap),
+            profiles: Profiles::new(heap),
             traders: Vec::new(heap),
             measured: 0,
             inflow: 0,
@@ -129,98 +130,15 @@ impl Player {
             }
             Call::Enter { trader, litres } => self.enter(trader, litres, report),
             Call::Quantity { trader } => self.quantity(trader, report),
-            _ => self.set_up(call, numbers, report),
-        }
-    }
-
-    // Plays a call that only sets up a sheet or a profile.
-    fn set_up(
-        &mut self,
-        call: Call<'_>,
-        numbers: Vec<u32>,
-        report: &mut Report,
-    ) -> Result<(), Trouble>
-        ensures { self.new.station.ledger.book ≡ self.old.station.ledger.book }
-    {
-        let heap = self.heap;
-        match call {
-            Call::Sheet { places } => self.set_sheet(places, report),
-            Call::Table { name, .. } => self.add_profile(
-                name,
-                Recipe::table(heap, numbers),
+            _ => set_up(
+                &mut self.sheets,
+                &mut self.profiles,
+                self.heap,
+                call,
+                numbers,
                 report,
             ),
-            Call::Even { name, factor } => {
-                self.add_profile(name, Recipe::even(heap, factor), report)
-            }
-            Call::Season {
-                name,
-                segment,
-                below,
-                ..
-            } => self.add_layer(name, below, Layer::new(segment, numbers), report),
-            _ => Err(Trouble::LedgerAgain),
         }
-    }
-
-    fn set_sheet(&mut self, places: u32, report: &mut Report) -> Result<(), Trouble>
-        ensures { self.new.station.ledger.book ≡ self.old.station.ledger.book }
-    {
-        self.sheets.set(self.heap, places)?;
-        Ok(report.tell(Kind::Sheet, Ok(places), |report, places| {
-            report.field("places", u64::from(places))
-        })?)
-    }
-
-    // A profile that is filled from a file of numbers, or holds one factor.
-    fn add_profile(
-        &mut self,
-        name: &[u8],
-        made: Result<Recipe, Refusal>,
-        report: &mut Report,
-    ) -> Result<(), Trouble>
-        ensures { self.new.station.ledger.book ≡ self.old.station.ledger.book }
-    {
-        if self.profiles.contains_key(name) {
-            return Err(Trouble::NameTaken);
-        }
-        let segments = match made {
-            Ok(recipe) => {
-                let segments = recipe.segments();
-                self.profiles
-                    .insert(Vec::from_slice(self.heap, name)?, recipe)?;
-                Ok(segments)
-            }
-            Err(why) => Err(why),
-        };
-        Ok(report.tell(Kind::Profile, segments, |report, segments| {
-            report.text(name)?;
-            report.field("segments", u64::from(segments))
-        })?)
-    }
-
-    // A season layer over a named profile.
-    fn add_layer(
-        &mut self,
-        name: &[u8],
-        below: &[u8],
-        layer: Result<Layer, Refusal>,
-        report: &mut Report,
-    ) -> Result<(), Trouble>
-        ensures { self.new.station.ledger.book ≡ self.old.station.ledger.book }
-    {
-        if self.profiles.contains_key(name) {
-            return Err(Trouble::NameTaken);
-        }
-        let recipe = self.profiles.get(below).ok_or(Trouble::NoProfile)?;
-        if !recipe.has_room() {
-            return Err(Trouble::PileTooHigh);
-        }
-        let made = match layer {
-            Ok(layer) => Ok(recipe.under(layer)?),
-            Err(why) => Err(why),
-        };
-        self.add_profile(name, made, report)
     }
 
     fn admit_trader(&mut self, name: &[u8], report: &mut Report) -> Result<(), Trouble>
@@ -283,7 +201,7 @@ impl Player {
     // A share-out's quantity, sum and loss, then each point's consumption and share.
     fn share(&mut self, name: &[u8], rule: Rule, report: &mut Report) -> Result<(), Trouble> {
         let points = self.station.ledger().counts().points;
-        let recipe = self.profiles.get(name).ok_or(Trouble::NoProfile)?;
+        let recipe = self.profiles.find(name)?;
         let (station, sheets) = (&mut self.station, &mut self.sheets);
         let told = match rule {
             Rule::Running => recipe.share(station, &Running, sheets),
@@ -359,9 +277,7 @@ impl Player {
         })?)
     }
 
-    fn quantity(&mut self, trader: u32, report: &mut Report) -> Result<(), Trouble>
-        ensures { self.new.station.ledger.book ≡ self.old.station.ledger.book }
-    {
+    fn quantity(&self, trader: u32, report: &mut Report) -> Result<(), Trouble> {
         let (station, sheets) = (&self.station, &self.sheets);
         let told = station
             .ledger()
@@ -372,8 +288,8 @@ impl Player {
         })?)
     }
 
-    // The closing report. Slips that are still open are named and withdrawn, and a day that still runs is named and abandoned; slips that
-    // the ledger would not take back come back.
+    // The closing report. Slips that are still open are named and withdrawn, and a day that still runs is named and abandoned. Slips that
+    // the ledger would not take back come back before anything else: they cannot be let go, so they are the outer error.
     pub fn close(self, report: &mut Report) -> Result<Result<(), Trouble>, Slips>
         ensures { IfErr result (λ left. 0 < vec_len left.open) }
     {
@@ -432,4 +348,27 @@ fn written(
         })?;
     }
     Ok(closing.tell(report)?)
+}
+
+// Plays a call that only sets up the sheets or a profile.
+fn set_up(
+    sheets: &mut Sheets,
+    profiles: &mut Profiles,
+    heap: Global,
+    call: Call<'_>,
+    numbers: Vec<u32>,
+    report: &mut Report,
+) -> Result<(), Trouble> {
+    match call {
+        Call::Sheet { places } => sheets.set(heap, places, report),
+        Call::Table { name, .. } => profiles.add(name, Recipe::table(heap, numbers), report),
+        Call::Even { name, factor } => profiles.add(name, Recipe::even(heap, factor), report),
+        Call::Season {
+            name,
+            segment,
+            below,
+            ..
+        } => profiles.add_layer(name, below, Layer::new(segment, numbers), report),
+        _ => Err(Trouble::LedgerAgain),
+    }
 }

@@ -1,7 +1,9 @@
 // The point sheet and the two work sheets of a share-out.
 ghost use Rattle.std.specs.Prelude.{◌≡◌, IfOk, vec_len};
 
+use crate::report::Report;
 use crate::trouble::Trouble;
+use journal::kind::Kind;
 use ledger::Point;
 use std::alloc::{AllocError, Global};
 
@@ -34,8 +36,13 @@ impl Sheets {
         })
     }
 
-    // The size that a `sheet` call gives.
-    pub(crate) fn set(&mut self, heap: Global, places: u32) -> Result<(), Trouble> {
+    // The size that a `sheet` call gives, which is told.
+    pub(crate) fn set(
+        &mut self,
+        heap: Global,
+        places: u32,
+        report: &mut Report,
+    ) -> Result<(), Trouble> {
         if self.settled {
             return Err(Trouble::SheetLate);
         }
@@ -44,6 +51,8 @@ impl Sheets {
         }
         *self = Sheets::new(heap, places as usize)?;
         self.settled = true;
-        Ok(())
+        Ok(report.tell(Kind::Sheet, Ok(places), |report, places| {
+            report.field("places", u64::from(places))
+        })?)
     }
 }

@@ -98,7 +98,7 @@ impl Slips {
         }
     }
 
-    // Reads a point: the number of its slip.
+    // Reads a point: the number of its slip. What the ledger answers is told, a refusal too; only a lack of memory ends the playing.
     pub(crate) fn read(
         &mut self,
         station: &mut Station,

@@ -66,7 +66,7 @@ impl<'a> Session<'a> {
         })
     }
 
-    // The numbers of a call's file; none where it has no file.
+    // The numbers of a call's file; none where it has no file, as no call that has one takes none.
     fn numbers(&self, call: Call<'_>) -> Result<Vec<u32>, Halt> {
         let (Call::Table { file, .. } | Call::Season { file, .. }) = call else {
             return Ok(Vec::new(self.rt.alloc()));
