@@ -17,7 +17,8 @@ pub struct Balance {
     pub consumption: Megajoules,
 }
 
-// From the MJ of the source and the MJ consumed.
+// From the MJ of the source and the MJ consumed. Here, for offers and for a nomination the steps are alike but for the fields' names, which
+// a generic maker would have to be told again.
 impl TryFrom<(u64, u64)> for Balance {
     type Error = Refusal;
 

@@ -27,12 +27,8 @@ impl Draws {
     }
 
     fn weights(&mut self, heap: Global) -> Result<Vec<u64>, AllocError> {
-        let mut weights = Vec::new(heap);
         let more = self.draw() % 9;
-        for _ in 0..=more {
-            weights.push(self.weight())?;
-        }
-        Ok(weights)
+        (0..=more).map(|_| self.weight()).collect(heap)
     }
 }
 
@@ -83,7 +79,7 @@ const SMALL: [Case<'static>; 4] = [
     },
 ];
 
-pub(crate) fn case_lines(page: &mut Page) -> anyhow::Result<()> {
+fn drawn_lines(page: &mut Page) -> anyhow::Result<()> {
     let mut draws = Draws { state: 2009 };
     for _ in 0..CASES {
         let weights = draws.weights(page.heap)?;
@@ -93,6 +89,11 @@ pub(crate) fn case_lines(page: &mut Page) -> anyhow::Result<()> {
         };
         case.lines(page)?;
     }
+    Ok(())
+}
+
+pub(crate) fn case_lines(page: &mut Page) -> anyhow::Result<()> {
+    drawn_lines(page)?;
     for case in &SMALL {
         case.lines(page)?;
     }

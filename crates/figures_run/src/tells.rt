@@ -37,25 +37,26 @@ fn table_line(page: &mut Page, table: &TableProfile, segment: u32, t: i16) -> fm
     page.end()
 }
 
+fn segment_lines(page: &mut Page, table: &TableProfile, segment: u32) -> anyhow::Result<()> {
+    for t in temperatures(page.heap)?.iter() {
+        table_line(page, table, segment, *t)?;
+    }
+    Ok(())
+}
+
 // Both segments at each of the temperatures.
 pub(crate) fn table_lines(page: &mut Page, table: &TableProfile) -> anyhow::Result<()> {
-    let temperatures = temperatures(page.heap)?;
     for segment in 0..TableProfile::SEGMENTS {
-        for t in temperatures.iter() {
-            table_line(page, table, segment, *t)?;
-        }
+        segment_lines(page, table, segment)?;
     }
     Ok(())
 }
 
 // Season numbers spread over all that is allowed.
 fn season_numbers(heap: Global) -> Result<Vec<u32>, AllocError> {
-    let mut numbers = Vec::new(heap);
-    // A loop: what a closure knows of its place has no bound, and the product might then be too large.
-    for place in 0..SEASON_NUMBERS {
-        numbers.push(place * 13_127 % 20_000_001)?;
-    }
-    Ok(numbers)
+    (0..SEASON_NUMBERS)
+        .map(|place| place.wrapping_mul(13_127) % 20_000_001)
+        .collect(heap)
 }
 
 fn layer_line<P: Profile>(
@@ -79,15 +80,34 @@ pub(crate) fn layer_lines(page: &mut Page, table: TableProfile) -> anyhow::Resul
     let mut layer = SeasonLayer::new(table, LAYER_SEGMENT).map_err(|back| back.why)?;
     layer.fill(season_numbers(page.heap)?.as_slice())?;
     for segment in 0..=TableProfile::SEGMENTS {
-        for season in 0..4u8 {
-            for temperature in LAYER_TEMPERATURES {
-                let weather = Weather {
-                    temperature,
-                    season,
-                };
-                layer_line(page, &layer, segment, weather)?;
-            }
-        }
+        seasons_lines(page, &layer, segment)?;
+    }
+    Ok(())
+}
+
+fn seasons_lines<P: Profile>(
+    page: &mut Page,
+    layer: &SeasonLayer<P>,
+    segment: u32,
+) -> anyhow::Result<()> {
+    for season in 0..4u8 {
+        season_lines(page, layer, segment, season)?;
+    }
+    Ok(())
+}
+
+fn season_lines<P: Profile>(
+    page: &mut Page,
+    layer: &SeasonLayer<P>,
+    segment: u32,
+    season: u8,
+) -> anyhow::Result<()> {
+    for temperature in LAYER_TEMPERATURES {
+        let weather = Weather {
+            temperature,
+            season,
+        };
+        layer_line(page, layer, segment, weather)?;
     }
     Ok(())
 }

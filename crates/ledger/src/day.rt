@@ -96,7 +96,8 @@ impl Phase {
         }
     }
 
-    // Nought but for a measured day: who asks has tested the phase, and an `Option` would have him meet a `None` that cannot come.
+    // This and the loss are nought but for a measured day: who asks has tested the phase, and an `Option` would have him meet a `None`
+    // that cannot come.
     pub(crate) fn quantity(self) -> u64
         ensures { result ≡ day_quantity self }
     {

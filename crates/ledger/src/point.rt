@@ -1,13 +1,14 @@
 // A meter point as a plain row of the caller's sheet, what is given when it is admitted, and what is asked of either.
 ghost use Rattle.std.specs.Prelude.{◌≡◌, ◌^◌, ◌≤◌};
-ghost use Rattle.ledger.specs.Rows.{particulars_fit, admitted_row, in_range, may_share, summable, open_sum_of};
+ghost use Rattle.ledger.specs.Rows.{particulars_fit, admitted_row, in_range, is_free, may_share, summable, open_sum_of};
 
 use crate::limits::{
     FULL_OPEN_SUM, FULL_PERIOD_SUM, MAX_OPEN_SUM, MAX_PERIOD_SUM, MAX_SCALE, MAX_TRADERS,
 };
 
 // The sheet is the caller's, so any row may hold anything: every call that reads one tests it first. So that a row stays a plain one
-// (a rule of the project), 0 stands for no slip, and the kept reading is 0 where there is none.
+// (a rule of the project), 0 stands for no slip, the kept reading is 0 where there is none, and the particulars are fields of its own.
+// An index of u32 goes by a cast in this crate: there is no `From` of u32 for usize.
 #[derive(Clone, Copy, PartialEq, Debug)]
 pub struct Point {
     pub trader: u32,
@@ -112,6 +113,13 @@ impl Particulars {
 }
 
 impl Point {
+    // Whether no slip of the point is open.
+    pub(crate) fn is_free(&self) -> bool
+        ensures { result ≡ is_free self.now }
+    {
+        self.slip == 0
+    }
+
     // Whether the row lies within its ranges.
     pub(crate) fn in_range(&self) -> bool
         ensures { result ≡ in_range self.now }
@@ -140,7 +148,7 @@ impl Point {
         self.trader != trader || self.in_range()
     }
 
-    // The row's open sum where it is the trader's, and else nought.
+    // The row's open sum where it is the trader's, and else nought, which is what it adds to his.
     pub(crate) fn open_sum_of(&self, trader: u32) -> u64
         ensures { result ≡ open_sum_of trader self.now }
     {

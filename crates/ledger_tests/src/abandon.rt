@@ -49,7 +49,7 @@ fn an_open_day_abandoned(rt: HostRuntime) -> Result<(), Fail> {
     let _ = entry(&mut ledger, &day, 1, 40_000);
     let metered = Seen::of(&ledger).metered;
     end_open(&mut ledger, day);
-    assert!(rt; metered == [0, 40_000] && Seen::of(&ledger) == before.with_opened(1));
+    assert!(rt; metered == [Ok(0), Ok(40_000)] && Seen::of(&ledger) == before.with_opened(1));
     Ok(())
 }
 
@@ -62,7 +62,7 @@ fn a_measured_day_abandoned(rt: HostRuntime) -> Result<(), Fail> {
     let metered = Seen::of(&ledger).metered;
     end_measured(&mut ledger, day);
     assert!(rt;
-        number == 1 && metered == [40_000, 0] && Seen::of(&ledger) == before.with_opened(1)
+        number == 1 && metered == [Ok(40_000), Ok(0)] && Seen::of(&ledger) == before.with_opened(1)
     );
     Ok(())
 }

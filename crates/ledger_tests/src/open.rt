@@ -101,9 +101,7 @@ fn empty_day(ledger: &mut Ledger, profile: &EvenProfile) -> Result<(), Fail> {
 #[test]
 fn no_day_after_four_thousand(rt: HostRuntime) -> Result<(), Fail> {
     let mut ledger = Ledger::new(0);
-    let Ok(profile) = EvenProfile::new(0) else {
-        return Err(Fail::new("a factor of 0"));
-    };
+    let profile = EvenProfile::new(0)?;
     for _ in 0..4000u32 {
         empty_day(&mut ledger, &profile)?;
     }

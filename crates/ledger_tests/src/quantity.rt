@@ -12,11 +12,11 @@ fn open_quantities(rt: HostRuntime) -> Result<(), Fail> {
     assert!(rt; number_of(ledger.open_quantity(&[Point::UNUSED; 1], 0)) == Some(1));
     assert!(rt; number_of(ledger.open_quantity(&sheet, 2)) == Some(3));
     assert!(rt; number_of(ledger.open_quantity(&[Point::UNUSED; 1], 2)) == Some(1));
-    assert!(rt; ledger.open_quantity(&sheet, 0).unwrap_or(1) == 5_000_000_000_000);
+    assert!(rt; ledger.open_quantity(&sheet, 0) == Ok(5_000_000_000_000));
     sheet[0].open_sum = 5_000_000_000_001;
     assert!(rt; number_of(ledger.open_quantity(&sheet, 0)) == Some(11));
     assert!(rt; number_of(ledger.open_quantity(&sheet, 2)) == Some(3));
-    assert!(rt; ledger.open_quantity(&sheet, 1).unwrap_or(1) == 0);
+    assert!(rt; ledger.open_quantity(&sheet, 1) == Ok(0));
     Ok(())
 }
 

@@ -10,8 +10,8 @@ pub(crate) struct Seen {
     pub(crate) loss: u64,
     pub(crate) correction: i64,
     pub(crate) accounts: i128,
-    pub(crate) account: [i64; 2],
-    pub(crate) metered: [u64; 2],
+    pub(crate) account: [Result<i64, Refusal>; 2],
+    pub(crate) metered: [Result<u64, Refusal>; 2],
 }
 
 impl Seen {
@@ -22,14 +22,8 @@ impl Seen {
             loss: ledger.loss(),
             correction: ledger.correction(),
             accounts: ledger.accounts(),
-            account: [
-                ledger.account(0).unwrap_or(0),
-                ledger.account(1).unwrap_or(0),
-            ],
-            metered: [
-                ledger.metered(0).unwrap_or(0),
-                ledger.metered(1).unwrap_or(0),
-            ],
+            account: [ledger.account(0), ledger.account(1)],
+            metered: [ledger.metered(0), ledger.metered(1)],
         }
     }
 
@@ -51,7 +45,7 @@ impl Seen {
                 bookings: 1,
                 ..self.counts
             },
-            account,
+            account: account.map(Ok),
             correction,
             accounts: i128::from(account[0]) + i128::from(account[1]),
             ..self
@@ -70,7 +64,8 @@ impl Seen {
     }
 }
 
-// How a call was answered: the number of its refusal, if it was refused, and whether the ledger stayed as it was.
+// How a call was answered: the number of its refusal, which is what the rules give, if it was refused, and whether the ledger stayed
+// as it was.
 #[derive(Clone, Copy)]
 pub(crate) struct Outcome {
     pub(crate) number: Option<u8>,
@@ -102,8 +97,5 @@ impl Outcome {
 
 // The number of the refusal, if it is one.
 pub(crate) fn number_of<T: Drop>(answer: Result<T, Refusal>) -> Option<u8> {
-    match answer {
-        Ok(_) => None,
-        Err(why) => Some(why.number()),
-    }
+    answer.err().map(Refusal::number)
 }

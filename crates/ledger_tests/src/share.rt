@@ -29,10 +29,7 @@ fn sharing<P: Profile>(
 }
 
 fn even(factor: u32) -> Result<EvenProfile, Fail> {
-    match EvenProfile::new(factor) {
-        Ok(profile) => Ok(profile),
-        Err(why) => Err(Fail::new(why.number())),
-    }
+    Ok(EvenProfile::new(factor)?)
 }
 
 // The number of the refusal, if any, where the station of two points is handed these sheets. A refusal has to leave them.

@@ -28,9 +28,7 @@ fn share<R: ShareRule>(
     sheet: &mut [Point],
     work: &mut Work,
 ) -> Result<SharedOut, Fail> {
-    let Ok(profile) = EvenProfile::new(764_445) else {
-        return Err(Fail::new("no factor"));
-    };
+    let profile = EvenProfile::new(764_445)?;
     let day = measured(ledger, metered, 1_000_000, rate)?;
     match sharing_out(
         ledger,
@@ -58,7 +56,7 @@ const TOLD: SharedOut = SharedOut {
 
 fn is_worked(ledger: &Ledger) -> bool {
     let seen = Seen::of(ledger);
-    seen.account == [700_000, 280_000]
+    seen.account == [Ok(700_000), Ok(280_000)]
         && seen.metered == [0, 0]
         && seen.accounts == 980_000
         && seen.loss == 20_000

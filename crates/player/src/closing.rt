@@ -57,6 +57,7 @@ impl Closing<'_> {
 pub(crate) fn tell_open_slips(slips: &Slips, report: &mut Report) -> Result<(), AllocError> {
     for slip in slips.as_slice() {
         report.closing("withdraw", |report| {
+            // A cast: there is no `From` of usize for u64.
             report.field("point", slip.point() as u64)?;
             report.field("slip", u64::from(slip.number()))
         })?;

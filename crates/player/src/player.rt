@@ -32,7 +32,7 @@ pub struct Player {
     profiles: Profiles,
     // their names
     traders: Vec<Vec<u8>>,
-    // of the day that was measured last, and of all days shared out
+    // of the day that was measured last, nought before the first, when none can be shared out; and of all days shared out
     measured: u64,
     inflow: u64,
 }
@@ -203,6 +203,7 @@ impl Player {
         let points = self.station.ledger().counts().points;
         let recipe = self.profiles.find(name)?;
         let (station, sheets) = (&mut self.station, &mut self.sheets);
+        // Two types, of which each call has one: a `dyn` would need a rule that is made and handed out.
         let told = match rule {
             Rule::Running => recipe.share(station, &Running, sheets),
             Rule::Largest => recipe.share(station, &LargestRemainder, sheets),
@@ -350,7 +351,7 @@ fn written(
     Ok(closing.tell(report)?)
 }
 
-// Plays a call that only sets up the sheets or a profile.
+// Plays a call that only sets up the sheets or a profile. All others but `ledger` were played above.
 fn set_up(
     sheets: &mut Sheets,
     profiles: &mut Profiles,

@@ -9,6 +9,7 @@ use std::alloc::{AllocError, Global};
 
 const MOST_PLACES: u32 = 65536;
 
+// Three sheets and not one of all columns, since a share-out takes three slices.
 #[derive(Drop)]
 pub struct Sheets {
     pub(crate) points: Vec<Point>,
@@ -49,6 +50,7 @@ impl Sheets {
         if places > MOST_PLACES {
             return Err(Trouble::TooManyPlaces);
         }
+        // A cast: there is no `From` of u32 for usize.
         *self = Sheets::new(heap, places as usize)?;
         self.settled = true;
         Ok(report.tell(Kind::Sheet, Ok(places), |report, places| {

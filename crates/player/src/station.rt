@@ -200,7 +200,7 @@ impl Station {
         }
     }
 
-    // Ends the running day: its number by openings.
+    // Ends the running day: its number by openings. The two arms are alike but for the type of the day, and the ledger has a call for each.
     pub(crate) fn abandon(&mut self) -> Result<u32, Refusal>
         ensures answer { result ≡ abandon_told self.old.running }
         ensures state { self.new.ledger.book ≡ abandoned self.old.ledger.book self.old.running }

@@ -43,9 +43,6 @@ impl Profile for EvenProfile {
         if segment >= Self::SEGMENTS || !weather.is_in_range() {
             return Factors::NONE;
         }
-        Factors {
-            multiplier: self.factor,
-            day: self.factor,
-        }
+        Factors::both(self.factor)
     }
 }

@@ -1,5 +1,8 @@
 // What a profile tells. A factor is a whole number of ten-millionths, 0 to 10,000,000.
 
+ghost use Rattle.std.specs.Prelude.{◌≡◌};
+ghost use Rattle.profiles.specs.Laws.{both};
+
 // The factor one.
 pub const WHOLE: u32 = 10_000_000;
 
@@ -10,7 +13,17 @@ pub struct Factors {
 }
 
 impl Factors {
-    // What is told where a profile has nothing to tell.
+    // One factor for both.
+    pub(crate) fn both(factor: u32) -> Factors
+        ensures { result ≡ both factor factor }
+    {
+        Factors {
+            multiplier: factor,
+            day: factor,
+        }
+    }
+
+    // What is told where a profile has nothing to tell: the rule has it tell 0 and 0, and never refuse.
     pub const NONE: Factors = Factors {
         multiplier: 0,
         day: 0,

@@ -78,6 +78,7 @@ impl<P: Profile> Profile for SeasonLayer<P> {
         }
         let number = self.sheet.at(weather.place(u32::from(weather.season)));
         let day = u64::from(told.day) * u64::from(number) / u64::from(WHOLE);
+        // A cast: it is proved to fit, and `try_from` would ask for a branch that never runs.
         Factors {
             multiplier: told.multiplier,
             day: day.min(u64::from(WHOLE)) as u32,

@@ -58,10 +58,6 @@ impl Profile for TableProfile {
         if segment >= Self::SEGMENTS || !weather.is_in_range() {
             return Factors::NONE;
         }
-        let factor = self.sheet.at(weather.place(segment));
-        Factors {
-            multiplier: factor,
-            day: factor,
-        }
+        Factors::both(self.sheet.at(weather.place(segment)))
     }
 }

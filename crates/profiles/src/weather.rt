@@ -17,7 +17,7 @@ const LAST_TENTH: i16 = 300;
 const COLUMNS: usize = 381;
 
 // A temperature in tenths of a degree Celsius, and a season: 0 winter, 1 transition in heating time, 2 transition outside it,
-// 3 summer. Both may be any number: a bad one is refused by its number, or told nothing.
+// 3 summer. Seasons, and segments too, are numbers and no enums, since they may be any: a bad one is refused, or told nothing.
 #[derive(Clone, Copy, PartialEq, Eq, Debug)]
 pub struct Weather {
     pub temperature: i16,
@@ -32,7 +32,8 @@ impl Weather {
         (COLDEST..=HOTTEST).contains(&self.temperature) && self.season <= LAST_SEASON
     }
 
-    // The temperature's column in a sheet; colder or warmer than the sheet goes, that of the nearer end.
+    // The temperature's column in a sheet; colder or warmer than the sheet goes, that of the nearer end. Casts, here and below: there is
+    // no `From` for usize of i16 and u32.
     fn column(self) -> usize
         ensures is { result ≡ column self.temperature }
         ensures inside { result < columns }

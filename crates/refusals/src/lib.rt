@@ -60,7 +60,7 @@ pub enum Refusal {
 }
 
 impl Refusal {
-    // The number under which the refusal is told.
+    // The number under which the refusal is told: the enum's own, which only a cast reads.
     pub fn number(self) -> u8
         ensures { result ≡ number_of self }
     {

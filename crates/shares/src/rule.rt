@@ -9,7 +9,8 @@ use crate::fair::Fair;
 pub trait ShareRule {
     ghost shares: { ℕ → List ℕ → List ℕ };
 
-    // Writes the shares over `out`, or noughts where `out` has not one place for each weight.
+    // Writes the shares over `out`, or noughts where `out` has not one place for each weight: the rule has it write noughts, and never
+    // refuse.
     fn share(&self, quantity: u64, weights: &[u64], out: &mut [u64])
         ensures { out.new ≡ written (shares quantity weights.now) weights.now (length out.old) };
 

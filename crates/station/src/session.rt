@@ -66,7 +66,7 @@ impl<'a> Session<'a> {
         })
     }
 
-    // The numbers of a call's file; none where it has no file, as no call that has one takes none.
+    // The numbers of a call's file, and an empty list where it has no file: an `Option` would be taken apart only to be made one again.
     fn numbers(&self, call: Call<'_>) -> Result<Vec<u32>, Halt> {
         let (Call::Table { file, .. } | Call::Season { file, .. }) = call else {
             return Ok(Vec::new(self.rt.alloc()));

@@ -127,7 +127,7 @@ impl Ledger {
         if reading >= dial_end(row.digits) {
             return Err(Refusal::Particulars);
         }
-        if row.slip != 0 {
+        if !row.is_free() {
             return Err(Refusal::SlipOpen);
         }
         if self.book.counts.readings >= MAX_READINGS {
@@ -209,7 +209,8 @@ impl Ledger {
         Ok(row)
     }
 
-    // Hands a point over: books the reading for the trader who had it, and then the point is the new trader's.
+    // Hands a point over: books the reading for the trader who had it, and then the point is the new trader's. The steps are those of
+    // `book` but for the test and the trader: what both do is `book_row`, and one function around it would only pass the two on.
     pub fn hand_over(
         &mut self,
         sheet: &mut [Point],

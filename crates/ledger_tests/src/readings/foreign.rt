@@ -4,7 +4,7 @@ ghost use Rattle.std.specs.Prelude.{◌≡◌};
 
 use crate::readings::slips::{Call, end, ended, ending, reading};
 use crate::readings::station::{SECOND, two_points};
-use crate::seen::Seen;
+use crate::seen::{Seen, number_of};
 use crate::station::ROW;
 use ledger::{Ledger, Point, Refused};
 use refusals::Refusal;
@@ -36,11 +36,8 @@ fn brought(ledger: &mut Ledger, sheet: &mut [Point; 2], call: Call) -> Result<Op
 }
 
 // Whether a call was refused by this number.
-fn refused(answer: Result<i64, Refusal>, number: u8) -> bool {
-    match answer {
-        Ok(_) => false,
-        Err(why) => why.number() == number,
-    }
+fn refused(answer: Result<Option<i64>, Refusal>, number: u8) -> bool {
+    number_of(answer) == Some(number)
 }
 
 // The first row while its first slip is open.

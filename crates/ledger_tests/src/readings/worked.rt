@@ -126,7 +126,7 @@ fn is_right(case: &Booking, call: Call, trader: u32) -> Result<bool, Fail> {
     let after = before
         .with_readings(1)
         .with_booking([case.correction, 0], case.distributor);
-    Ok(told == case.correction && sheet == [booked, SECOND] && Seen::of(&ledger) == after)
+    Ok(told == Some(case.correction) && sheet == [booked, SECOND] && Seen::of(&ledger) == after)
 }
 
 #[test]
@@ -150,7 +150,7 @@ fn handed_over_within(
     day: MeasuredDay,
     sheet: &mut [Point],
     profile: &EvenProfile,
-) -> Result<i64, Fail>
+) -> Result<Option<i64>, Fail>
     requires { is_measured ledger.old.book.phase day.number ≡ true }
 {
     let told = match reading(ledger, sheet, 0, 15) {
@@ -178,9 +178,7 @@ fn handed_over_within(
 #[test]
 fn a_hand_over_within_a_day(rt: HostRuntime) -> Result<(), Fail> {
     let mut ledger = two_points()?;
-    let Ok(profile) = EvenProfile::new(764_445) else {
-        return Err(Fail::new("no factor"));
-    };
+    let profile = EvenProfile::new(764_445)?;
     let mut sheet = [
         ROLLED.row,
         Point {
@@ -189,7 +187,7 @@ fn a_hand_over_within_a_day(rt: HostRuntime) -> Result<(), Fail> {
         },
     ];
     let day = measured(&mut ledger, [0, 0], 980_000, 0)?;
-    assert!(rt; handed_over_within(&mut ledger, day, &mut sheet, &profile)? == -5_000);
+    assert!(rt; handed_over_within(&mut ledger, day, &mut sheet, &profile)? == Some(-5_000));
     let share = Point {
         trader: 1,
         scale_factor: 327_034,
@@ -209,7 +207,9 @@ fn a_hand_over_within_a_day(rt: HostRuntime) -> Result<(), Fail> {
     );
     let seen = Seen::of(&ledger);
     assert!(rt;
-        seen.account == [-5_000, 980_000] && seen.correction == 5_000 && seen.next_day == 3562
+        seen.account == [Ok(-5_000), Ok(980_000)]
+            && seen.correction == 5_000
+            && seen.next_day == 3562
     );
     Ok(())
 }
