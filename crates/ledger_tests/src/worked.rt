@@ -57,7 +57,7 @@ const TOLD: SharedOut = SharedOut {
 fn is_worked(ledger: &Ledger) -> bool {
     let seen = Seen::of(ledger);
     seen.account == [Ok(700_000), Ok(280_000)]
-        && seen.metered == [0, 0]
+        && seen.metered == [Ok(0), Ok(0)]
         && seen.accounts == 980_000
         && seen.loss == 20_000
         && seen.correction == 0
@@ -182,6 +182,8 @@ fn a_point_joins_between_days(rt: HostRuntime) -> Result<(), Fail> {
     let told = share(&mut ledger, &Running, [0, 0], 0, &mut sheet, &mut work)?;
     assert!(rt; number == 2 && told.quantity == 1_000_000 && told.total == 152_888);
     assert!(rt; work.shares == [500_000, 250_000, 250_000] && sheet == JOINED);
-    assert!(rt; Seen::of(&ledger).account == [1_450_000, 530_000] && ledger.next_day() == 3563);
+    assert!(rt;
+        Seen::of(&ledger).account == [Ok(1_450_000), Ok(530_000)] && ledger.next_day() == 3563
+    );
     Ok(())
 }

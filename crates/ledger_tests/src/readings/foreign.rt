@@ -36,7 +36,7 @@ fn brought(ledger: &mut Ledger, sheet: &mut [Point; 2], call: Call) -> Result<Op
 }
 
 // Whether a call was refused by this number.
-fn refused(answer: Result<Option<i64>, Refusal>, number: u8) -> bool {
+fn refused(answer: Result<i64, Refusal>, number: u8) -> bool {
     number_of(answer) == Some(number)
 }
 

@@ -41,21 +41,24 @@ pub(crate) enum Call {
     Withdraw,
 }
 
-// Makes the call: the correction, if it books. A refusal hands the slip back, and the points and the running day stay.
+// Makes the call: the correction, which a withdrawal leaves at nought. A refusal hands the slip back, and the points and the running day stay.
 pub(crate) fn ending(
     ledger: &mut Ledger,
     sheet: &mut [Point],
     slip: Slip,
     call: Call,
-) -> Result<Option<i64>, Refused<Slip>>
+) -> Result<i64, Refused<Slip>>
     ensures slip { IfErr result (λ e. e.given ≡ slip) }
     ensures points { ledger.new.book.counts.points ≡ ledger.old.book.counts.points }
     ensures day { ledger.new.book.phase ≡ ledger.old.book.phase }
 {
     match call {
-        Call::Book => ledger.book(sheet, slip).map(Some),
-        Call::HandOver(trader) => ledger.hand_over(sheet, slip, trader).map(Some),
-        Call::Withdraw => ledger.withdraw(sheet, slip).map(|_| None),
+        Call::Book => ledger.book(sheet, slip),
+        Call::HandOver(trader) => ledger.hand_over(sheet, slip, trader),
+        Call::Withdraw => match ledger.withdraw(sheet, slip) {
+            Ok(()) => Ok(0),
+            Err(refused) => Err(refused),
+        },
     }
 }
 
@@ -65,7 +68,7 @@ pub(crate) fn ended(
     sheet: &mut [Point],
     slip: Slip,
     call: Call,
-) -> Result<Option<i64>, Refusal>
+) -> Result<i64, Refusal>
     requires { Endable ledger.old.book slip }
     ensures day { ledger.new.book.phase ≡ ledger.old.book.phase }
 {

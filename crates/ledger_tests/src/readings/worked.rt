@@ -126,7 +126,7 @@ fn is_right(case: &Booking, call: Call, trader: u32) -> Result<bool, Fail> {
     let after = before
         .with_readings(1)
         .with_booking([case.correction, 0], case.distributor);
-    Ok(told == Some(case.correction) && sheet == [booked, SECOND] && Seen::of(&ledger) == after)
+    Ok(told == case.correction && sheet == [booked, SECOND] && Seen::of(&ledger) == after)
 }
 
 #[test]
@@ -150,7 +150,7 @@ fn handed_over_within(
     day: MeasuredDay,
     sheet: &mut [Point],
     profile: &EvenProfile,
-) -> Result<Option<i64>, Fail>
+) -> Result<i64, Fail>
     requires { is_measured ledger.old.book.phase day.number ≡ true }
 {
     let told = match reading(ledger, sheet, 0, 15) {
@@ -187,7 +187,7 @@ fn a_hand_over_within_a_day(rt: HostRuntime) -> Result<(), Fail> {
         },
     ];
     let day = measured(&mut ledger, [0, 0], 980_000, 0)?;
-    assert!(rt; handed_over_within(&mut ledger, day, &mut sheet, &profile)? == Some(-5_000));
+    assert!(rt; handed_over_within(&mut ledger, day, &mut sheet, &profile)? == -5_000);
     let share = Point {
         trader: 1,
         scale_factor: 327_034,
