@@ -22,9 +22,7 @@ impl Closing<'_> {
         for (trader, name) in (0u32..).zip(self.traders) {
             self.tell_trader(trader, name.as_slice(), report)?;
         }
-        report.closing("correction", |report| {
-            report.number(all.correction)
-        })?;
+        report.closing("correction", |report| report.number(all.correction))?;
         report.closing("balance", |report| {
             report.field("inflow", self.inflow)?;
             report.field("loss", all.loss)?;

@@ -160,9 +160,7 @@ impl Player {
         let sheet = self.sheets.points.as_mut_slice();
         let told = self.station.admit_point(sheet, given);
         self.sheets.settled = true;
-        Ok(report.tell(Kind::Point, told, |report, point| {
-            report.number(point)
-        })?)
+        Ok(report.tell(Kind::Point, told, |report, point| report.number(point))?)
     }
 
     fn open(&mut self, weather: Weather, report: &mut Report) -> Result<(), Trouble>
@@ -343,9 +341,7 @@ fn written(
 ) -> Result<(), Trouble> {
     named?;
     if let Ok(opening) = told {
-        report.closing("abandon", |report| {
-            report.field("opening", opening)
-        })?;
+        report.closing("abandon", |report| report.field("opening", opening))?;
     }
     Ok(closing.tell(report)?)
 }
