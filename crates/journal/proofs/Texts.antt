@@ -30,7 +30,7 @@ sized_is k n ws f h =
     ∙ sym (ap (λ (b : Bool). cond b (f (λ i. get_or (texts_of ws) i [])) (Err (Form k))) (eq-eqb (length (texts_of ws)) n (length_texts ws ∙ h)))
 
 -- two words, each a number within its own limit
-pub pair_is : (k : Kind) (l m : ℕ) (ws : List (Bor (List ℕ))) (f : List ℕ → Result Said Fault) → length ws ≡ 2 → made (number_of l (text_at ws 0)) (λ a. made (number_of m (text_at ws 1)) (λ b. f (a ∷ b ∷ []))) ≡ made (numbers_of k (l ∷ m ∷ []) (texts_of ws)) f
+pub pair_is : {Y : Type 0} (k : Kind) (l m : ℕ) (ws : List (Bor (List ℕ))) (f : List ℕ → Result Y Fault) → length ws ≡ 2 → made (number_of l (text_at ws 0)) (λ a. made (number_of m (text_at ws 1)) (λ b. f (a ∷ b ∷ []))) ≡ made (numbers_of k (l ∷ m ∷ []) (texts_of ws)) f
 pair_is k l m [] f h = absurd (omega arith)
 pair_is k l m (v ∷ []) f h = absurd (omega arith)
 pair_is k l m (v ∷ w ∷ x ∷ ws) f h = absurd (omega arith)

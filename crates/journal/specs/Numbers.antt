@@ -39,6 +39,11 @@ abbrev pub Held : {N E : Type 0} → (ℕ → Result N E → Type 0) → Result 
 Held {N} {E} holds (Err fault) result = result ≡ Err fault
 Held {N} {E} holds (Ok n) result = (held : Result N E) × holds n held × MatchResult held (λ x. result ≡ Ok x) (λ _. result ≡ Err TooLarge)
 
+-- two numbers as values of other types of numbers, of which the second is read where the first is held
+abbrev pub HeldPair : {A B E F : Type 0} → (ℕ → Result A E → Type 0) → (ℕ → Result B F → Type 0) → Result ℕ Fault → Result ℕ Fault → Result (A × B) Fault → Type 0
+HeldPair {A} {B} first second m n result =
+    (a : Result A Fault) × Held first m a × MatchResult a (λ x. (b : Result B Fault) × Held second n b × (result ≡ made b (λ y. Ok (x, y)))) (λ e. result ≡ Err e)
+
 -- tenths of a degree: a whole number of degrees, and one digit behind a point where there is one
 abbrev pub pointed : List ℕ → Bool
 pointed word = nat_le 2 (length word) && slice_index word (length word - 2) == 46

@@ -1,8 +1,9 @@
 // A line as a call.
-ghost use Rattle.std.specs.Prelude.{◌≡◌, [], ◌∷◌, Ok, replicate, slice_index};
+ghost use Rattle.std.specs.Prelude.{◌≡◌, ◌≢◌, [], ◌∷◌, Ok, Err, length, replicate, slice_index, slice_index_or};
 ghost use Rattle.journal.specs.Words.{texts_of, uncommented_of, words_of};
-ghost use Rattle.journal.specs.Numbers.{made, numbers_of};
-ghost use Rattle.journal.specs.Calls.{call_of, form_of, heard, heard_line, max32, shaped_of};
+ghost use Rattle.journal.specs.Numbers.{HeldPair, made, number_of, numbers_of};
+ghost use Rattle.journal.specs.Calls.{call_of, form_of, heard, heard_line, max32, max64, shaped_of};
+ghost use Rattle.journal.specs.declared.fault.Fault.TheVariants.{Form};
 ghost use Rattle.journal.specs.declared.kind.Kind.TheVariants as of;
 ghost use Rattle.journal.specs.declared.kind.Shape.TheVariants as shaped;
 
@@ -97,28 +98,18 @@ fn numbers<const N: usize>(kind: Kind, args: &[&[u8]]) -> Result<[u32; N], Fault
     Ok(found)
 }
 
-fn enter<'a>(args: &[&'a [u8]]) -> Result<Call<'a>, Fault>
-    ensures { heard result ≡ form_of of.Enter (texts_of args.now) }
+// The two numbers of a call, each of its place's own type.
+fn two<A: TryFrom<u64> + Drop, B: TryFrom<u64>>(kind: Kind, args: &[&[u8]]) -> Result<(A, B), Fault>
+where
+    A::Error: Drop,
+    B::Error: Drop,
+    ensures form { length args.now ≢ 2 → result ≡ Err (Form kind) }
+    ensures pair { length args.now ≡ 2 → HeldPair A.try_from_gives B.try_from_gives (number_of max64 (slice_index_or (texts_of args.now) 0 [])) (number_of max64 (slice_index_or (texts_of args.now) 1 [])) result }
 {
-    let [trader, litres] = args else {
-        return Err(Fault::Form(Kind::Enter));
+    let [first, second] = args else {
+        return Err(Fault::Form(kind));
     };
-    Ok(Call::Enter {
-        trader: read(trader)?,
-        litres: read(litres)?,
-    })
-}
-
-fn inflow<'a>(args: &[&'a [u8]]) -> Result<Call<'a>, Fault>
-    ensures { heard result ≡ form_of of.Inflow (texts_of args.now) }
-{
-    let [volume, rate] = args else {
-        return Err(Fault::Form(Kind::Inflow));
-    };
-    Ok(Call::Inflow {
-        litres: read(volume)?,
-        rate: read(rate)?,
-    })
+    Ok((read(first)?, read(second)?))
 }
 
 // The words behind `profile NAME table`, `profile NAME even` and `profile NAME season`.
@@ -260,20 +251,14 @@ fn formed<'a>(kind: Kind, args: &[&'a [u8]]) -> Result<Call<'a>, Fault>
         Kind::Trader => trader(args),
         Kind::Point => point(args),
         Kind::Open => weather(args),
-        Kind::Enter => enter(args),
-        Kind::Inflow => inflow(args),
+        Kind::Enter => two(kind, args).map(|(trader, litres)| Call::Enter { trader, litres }),
+        Kind::Inflow => two(kind, args).map(|(litres, rate)| Call::Inflow { litres, rate }),
         Kind::Share => share(args),
         Kind::Abandon => abandon(args),
         Kind::Quantity => one(kind, args).map(|trader| Call::Quantity { trader }),
-        Kind::Read => {
-            let [point, reading]: [u32; 2] = numbers(kind, args)?;
-            Ok(Call::Read { point, reading })
-        }
+        Kind::Read => two(kind, args).map(|(point, reading)| Call::Read { point, reading }),
         Kind::Book => one(kind, args).map(|point| Call::Book { point }),
-        Kind::HandOver => {
-            let [point, trader]: [u32; 2] = numbers(kind, args)?;
-            Ok(Call::HandOver { point, trader })
-        }
+        Kind::HandOver => two(kind, args).map(|(point, trader)| Call::HandOver { point, trader }),
         Kind::Withdraw => one(kind, args).map(|point| Call::Withdraw { point }),
     }
 }

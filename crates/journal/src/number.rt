@@ -4,6 +4,7 @@ ghost use Rattle.std.specs.Str.{all_ascii_digits};
 ghost use Rattle.journal.specs.Numbers.{above, below, Held, numeral, magnitude_of, number_of, tenths_of};
 
 use crate::fault::Fault;
+use itoa::{Buffer, Integer};
 use std::alloc::AllocError;
 use std::str;
 
@@ -86,8 +87,8 @@ pub(crate) fn tenths(word: &[u8]) -> Result<i16, Fault>
 }
 
 // Writes a number in decimal digits behind what is there.
-pub fn put_number(out: &mut Vec<u8>, n: u64) -> Result<(), AllocError>
-    ensures { OnOk result (out.new.items ≡ out.old.items ++ decimal n) }
+pub fn put_number<N: Integer>(out: &mut Vec<u8>, n: N) -> Result<(), AllocError>
+    ensures { OnOk result (out.new.items ≡ out.old.items ++ N.text n) }
 {
-    out.extend_from_slice(itoa::Buffer::new().format(n).as_bytes())
+    out.extend_from_slice(Buffer::new().format(n).as_bytes())
 }

@@ -6,9 +6,13 @@ use Rattle.player.specs.declared.report.Report.{Report}
 abbrev pub separator : Bool → ℕ
 separator csv = cond csv 44 32
 
+-- a field's name, and the text of the next
+abbrev pub named_field : Bool → List ℕ → List ℕ → List ℕ
+named_field csv name text = (separator csv ∷ name) ++ (separator csv ∷ text)
+
 -- a field's name, and the number in the next
 abbrev pub field_of : Bool → List ℕ → ℕ → List ℕ
-field_of csv name n = (separator csv ∷ name) ++ (separator csv ∷ decimal n)
+field_of csv name n = named_field csv name (decimal n)
 
 -- a point's line in a share-out
 abbrev pub point_line : Bool → ℕ → ℕ → ℕ → ℕ → List ℕ

@@ -22,26 +22,24 @@ impl Closing<'_> {
         for (trader, name) in (0u32..).zip(self.traders) {
             self.tell_trader(trader, name.as_slice(), report)?;
         }
-        report.closing("correction", |report| {
-            report.signed(i128::from(all.correction))
-        })?;
+        report.closing("correction", |report| report.number(all.correction))?;
         report.closing("balance", |report| {
             report.field("inflow", self.inflow)?;
             report.field("loss", all.loss)?;
-            report.signed_field("accounts", all.accounts)?;
-            report.signed_field("correction", i128::from(all.correction))?;
+            report.field("accounts", all.accounts)?;
+            report.field("correction", all.correction)?;
             // what was taken in and lies in no account: always 0
             let difference = i128::from(self.inflow).saturating_sub(all.inflow);
-            report.signed_field("difference", difference)
+            report.field("difference", difference)
         })
     }
 
     fn tell_trader(&self, trader: u32, name: &[u8], report: &mut Report) -> Result<(), AllocError> {
         report.closing("trader", |report| {
-            report.number(u64::from(trader))?;
+            report.number(trader)?;
             report.text(name)?;
             match self.ledger.account(trader) {
-                Ok(account) => report.signed_field("account", i128::from(account))?,
+                Ok(account) => report.field("account", account)?,
                 Err(why) => report.refused(why)?,
             }
             report.text(b"open")?;
@@ -57,9 +55,8 @@ impl Closing<'_> {
 pub(crate) fn tell_open_slips(slips: &Slips, report: &mut Report) -> Result<(), AllocError> {
     for slip in slips.as_slice() {
         report.closing("withdraw", |report| {
-            // A cast: there is no `From` of usize for u64.
-            report.field("point", slip.point() as u64)?;
-            report.field("slip", u64::from(slip.number()))
+            report.field("point", slip.point())?;
+            report.field("slip", slip.number())
         })?;
     }
     Ok(())

@@ -46,7 +46,7 @@ impl Profiles {
         };
         Ok(report.tell(Kind::Profile, segments, |report, segments| {
             report.text(name)?;
-            report.field("segments", u64::from(segments))
+            report.field("segments", segments)
         })?)
     }
 

@@ -51,7 +51,7 @@ impl Player {
     {
         report.go_to(line);
         report.tell(Kind::Ledger, Ok(first_day), |report, day| {
-            report.field("day", u64::from(day))
+            report.field("day", day)
         })?;
         let sheets = Sheets::new(heap, PLACES)?;
         Ok(Player {
@@ -149,7 +149,7 @@ impl Player {
             self.traders.push(Vec::from_slice(self.heap, name)?)?;
         }
         Ok(report.tell(Kind::Trader, told, |report, trader| {
-            report.number(u64::from(trader))?;
+            report.number(trader)?;
             report.text(name)
         })?)
     }
@@ -160,9 +160,7 @@ impl Player {
         let sheet = self.sheets.points.as_mut_slice();
         let told = self.station.admit_point(sheet, given);
         self.sheets.settled = true;
-        Ok(report.tell(Kind::Point, told, |report, point| {
-            report.number(point as u64)
-        })?)
+        Ok(report.tell(Kind::Point, told, |report, point| report.number(point))?)
     }
 
     fn open(&mut self, weather: Weather, report: &mut Report) -> Result<(), Trouble>
@@ -171,8 +169,8 @@ impl Player {
         let day = self.station.ledger().next_day();
         let told = self.station.open(weather);
         Ok(report.tell(Kind::Open, told, |report, opening| {
-            report.field("opening", u64::from(opening))?;
-            report.field("day", u64::from(day))
+            report.field("opening", opening)?;
+            report.field("day", day)
         })?)
     }
 
@@ -181,7 +179,7 @@ impl Player {
     {
         let told = self.station.enter(trader, litres);
         Ok(report.tell(Kind::Enter, told, |report, metered| {
-            report.field("trader", u64::from(trader))?;
+            report.field("trader", trader)?;
             report.field("metered", metered)
         })?)
     }
@@ -194,7 +192,7 @@ impl Player {
             self.measured = litres;
         }
         Ok(report.tell(Kind::Inflow, told, |report, opening| {
-            report.field("opening", u64::from(opening))
+            report.field("opening", opening)
         })?)
     }
 
@@ -229,7 +227,7 @@ impl Player {
     {
         let told = self.station.abandon();
         Ok(report.tell(Kind::Abandon, told, |report, opening| {
-            report.field("opening", u64::from(opening))
+            report.field("opening", opening)
         })?)
     }
 
@@ -239,8 +237,8 @@ impl Player {
             .slips
             .read(&mut self.station, sheet, point as usize, reading)?;
         Ok(report.tell(Kind::Read, told, |report, slip| {
-            report.field("point", u64::from(point))?;
-            report.field("slip", u64::from(slip))
+            report.field("point", point)?;
+            report.field("slip", slip)
         })?)
     }
 
@@ -248,8 +246,8 @@ impl Player {
         let sheet = self.sheets.points.as_mut_slice();
         let told = self.slips.book(&mut self.station, sheet, point as usize);
         Ok(report.tell(Kind::Book, told, |report, correction| {
-            report.field("point", u64::from(point))?;
-            report.signed_field("correction", i128::from(correction))
+            report.field("point", point)?;
+            report.field("correction", correction)
         })?)
     }
 
@@ -259,9 +257,9 @@ impl Player {
             .slips
             .hand_over(&mut self.station, sheet, point as usize, trader);
         Ok(report.tell(Kind::HandOver, told, |report, correction| {
-            report.field("point", u64::from(point))?;
-            report.field("trader", u64::from(trader))?;
-            report.signed_field("correction", i128::from(correction))
+            report.field("point", point)?;
+            report.field("trader", trader)?;
+            report.field("correction", correction)
         })?)
     }
 
@@ -273,8 +271,8 @@ impl Player {
             .slips
             .withdraw(self.station.ledger(), sheet, point as usize);
         Ok(report.tell(Kind::Withdraw, told, |report, slip| {
-            report.field("point", u64::from(point))?;
-            report.field("slip", u64::from(slip))
+            report.field("point", point)?;
+            report.field("slip", slip)
         })?)
     }
 
@@ -284,7 +282,7 @@ impl Player {
             .ledger()
             .open_quantity(sheets.points.as_slice(), trader);
         Ok(report.tell(Kind::Quantity, told, |report, litres| {
-            report.field("trader", u64::from(trader))?;
+            report.field("trader", trader)?;
             report.field("litres", litres)
         })?)
     }
@@ -344,9 +342,7 @@ fn written(
 ) -> Result<(), Trouble> {
     named?;
     if let Ok(opening) = told {
-        report.closing("abandon", |report| {
-            report.field("opening", u64::from(opening))
-        })?;
+        report.closing("abandon", |report| report.field("opening", opening))?;
     }
     Ok(closing.tell(report)?)
 }

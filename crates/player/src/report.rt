@@ -1,7 +1,8 @@
 // What is printed: lines of fields, separated by a space, or by a comma.
-ghost use Rattle.std.specs.Prelude.{◌≡◌, [], ◌∷◌, ◌++◌, decimal, OnOk};
-ghost use Rattle.player.specs.Printed.{Adds, separator, field_of, point_line};
+ghost use Rattle.std.specs.Prelude.{◌≡◌, [], ◌∷◌, ◌++◌, OnOk};
+ghost use Rattle.player.specs.Printed.{Adds, separator, named_field, point_line};
 
+use itoa::Integer;
 use journal::kind::{Kind, Worded};
 use journal::number::put_number;
 use refusals::Refusal;
@@ -66,16 +67,17 @@ impl Report {
         self.bytes.extend_from_slice(text)
     }
 
-    pub(crate) fn number(&mut self, n: u64) -> Result<(), AllocError>
-        ensures { OnOk result (Adds self.old self.new ((separator self.old.csv ∷ decimal n))) }
+    // A field of a number.
+    pub(crate) fn number<N: Integer>(&mut self, n: N) -> Result<(), AllocError>
+        ensures { OnOk result (Adds self.old self.new ((separator self.old.csv ∷ N.text n))) }
     {
         self.separate()?;
         put_number(&mut self.bytes, n)
     }
 
     // A field that names the next, and the number in that.
-    pub(crate) fn field(&mut self, name: &str, n: u64) -> Result<(), AllocError>
-        ensures { OnOk result (Adds self.old self.new (field_of self.old.csv name.now n)) }
+    pub(crate) fn field<N: Integer>(&mut self, name: &str, n: N) -> Result<(), AllocError>
+        ensures { OnOk result (Adds self.old self.new (named_field self.old.csv name.now (N.text n))) }
     {
         self.text(name.as_bytes())?;
         self.number(n)
@@ -95,17 +97,6 @@ impl Report {
         self.field("consumption", consumption)?;
         self.field("share", share)?;
         self.end()
-    }
-
-    // A number that may be below 0.
-    pub(crate) fn signed(&mut self, n: i128) -> Result<(), AllocError> {
-        let text = n.to_string(self.heap)?;
-        self.text(text.as_bytes())
-    }
-
-    pub(crate) fn signed_field(&mut self, name: &str, n: i128) -> Result<(), AllocError> {
-        self.text(name.as_bytes())?;
-        self.signed(n)
     }
 
     // The line of the call: what it was told, as fields, or why it was refused.
@@ -142,7 +133,7 @@ impl Report {
 
     // The refusal, by number and in words.
     pub(crate) fn refused(&mut self, why: Refusal) -> Result<(), AllocError> {
-        self.field("refused", u64::from(why.number()))?;
+        self.field("refused", why.number())?;
         let words = why.to_string(self.heap)?;
         if self.csv {
             self.bytes.extend_from_slice(b",\"")?;

@@ -54,7 +54,7 @@ impl Sheets {
         *self = Sheets::new(heap, places as usize)?;
         self.settled = true;
         Ok(report.tell(Kind::Sheet, Ok(places), |report, places| {
-            report.field("places", u64::from(places))
+            report.field("places", places)
         })?)
     }
 }
