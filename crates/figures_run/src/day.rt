@@ -110,7 +110,7 @@ fn share_day<P: Profile, R: ShareRule>(
     }
 }
 
-// What the day came to: what the share-out told, and each point's profile consumption and share.
+// What the day came to: what the share-out told, and each point's profile consumption and share, as it writes them, in two sheets.
 #[derive(Drop)]
 struct Worked {
     told: SharedOut,

@@ -1,4 +1,5 @@
-// A sheet of numbers, as text: numbers apart by blanks and lines, and `#` before a comment.
+// A sheet of numbers, as text: numbers apart by blanks and lines, and `#` before a comment. Read here, and not by the journal's reader,
+// since this program stands on the rules' crates alone.
 use anyhow::anyhow;
 use std::alloc::Global;
 

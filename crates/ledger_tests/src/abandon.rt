@@ -18,7 +18,7 @@ fn open_of_another(ledger: &mut Ledger, other: &mut Ledger) -> Result<Outcome, F
     }
 }
 
-// Ends another ledger's measured day on this ledger.
+// Ends another ledger's measured day on this ledger. Like the open day's, of which it differs in the token's type: see `days`.
 fn measured_of_another(ledger: &mut Ledger, other: &mut Ledger) -> Result<Outcome, Fail> {
     let day = measured(other, [0, 0], 1_000_000, 0)?;
     let before = Seen::of(ledger);

@@ -1,4 +1,5 @@
-// Days for the tests. A day cannot be let go, so each function here ends the day that it is handed, or says what still stands.
+// Days for the tests. Each helper says in its contract what it leaves of the running day: a token goes beside its ledger, and no type can hold
+// both and lend each. A day cannot be let go, so each function here ends the day that it is handed, or says what still stands.
 ghost use Rattle.std.specs.Prelude.{◌≡◌, true, IfOk, IfErr, MatchResult};
 ghost use Rattle.ledger.specs.Days.{is_open, is_measured};
 

@@ -31,7 +31,7 @@ fn taken(ledger: &mut Ledger, case: &Inflow) -> Result<Outcome, Fail> {
     }
 }
 
-// Takes an inflow by another ledger's day.
+// Takes an inflow by another ledger's day. Like `taken`, but a day that is refused is ended by the ledger that it is of.
 fn by_another(
     ledger: &mut Ledger,
     other: &mut Ledger,

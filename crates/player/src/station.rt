@@ -71,7 +71,7 @@ impl Station {
         self.ledger.admit_point(sheet, given)
     }
 
-    // Reads a point.
+    // Reads a point. Calls that leave the running day say so, since it lies in this type beside the ledger.
     pub(crate) fn read(
         &mut self,
         sheet: &mut [Point],

@@ -56,10 +56,13 @@ fn read_args(rt: &HostRuntime) -> anyhow::Result<Asked> {
 fn shown(heap: Global, line: &[u8]) -> anyhow::Result<Vec<u8>> {
     let wide = std::str::from_utf8(line).is_ok() && line.len() <= LONGEST;
     let mut text = Vec::from_slice(heap, b"    ")?;
-    for b in line.iter().take(LONGEST) {
-        let plain = *b >= 32 && *b < 127 || *b >= 128 && wide;
-        text.push(if plain { *b } else { b'?' })?;
-    }
+    text.extend(
+        line.iter().take(LONGEST).map(|b| match *b {
+            32..=126 => *b,
+            128.. if wide => *b,
+            _ => b'?',
+        }),
+    )?;
     text.push(b'\n')?;
     Ok(text)
 }
