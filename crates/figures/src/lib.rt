@@ -1,9 +1,22 @@
 // The worked figures of the rules, established of the definitions that the contracts use.
 #![tactic(auto)]
 
+ghost use Rattle.std.specs.Prelude.{◌≡◌, Ok};
 ghost use Rattle.figures.specs.Figures.{Figures};
 
-// Does nothing. Its contract is the table of figures, so that the check asks for the proof of each of them.
-pub fn figures_hold()
-    ensures { Figures }
-{}
+use calendar::date::Date;
+use refusals::Refusal;
+
+// The number of the worked gas year's first day. The contract has the whole table of figures, so that the check asks for the proof of
+// each of them; the code works this one out.
+pub fn figures_hold() -> Result<u32, Refusal>
+    ensures figures { Figures }
+    ensures day { result ≡ Ok 3_561 }
+{
+    let day = Date {
+        year: 2009,
+        month: 10,
+        day: 1,
+    };
+    day.number()
+}

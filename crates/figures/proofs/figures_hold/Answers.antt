@@ -1,13 +1,13 @@
 -- Each figure by working out both sides.
-use Rattle.std.proofs.Common.{refl}
+use Rattle.std.proofs.Common.{refl, ◌∙◌}
 use Rattle.shares.specs.Fair.{fair}
 use Rattle.shares.specs.Rules.{upto, running_share, running, floors, remainders, left, ahead, largest_share, largest}
 use Rattle.calendar.specs.Days.{days_before_month, days_before_year}
 use Rattle.figures.proofs.figures_hold.Goals as goal
 
-pub returns : goal.returns
+pub returns-clause-figures : goal.returns-clause-figures
 unfolding fair upto running_share running floors remainders left ahead largest_share largest days_before_month days_before_year
-returns c =
+returns-clause-figures c =
     record {
       equal_running = refl;
       equal_largest = refl;
@@ -29,3 +29,7 @@ returns c =
       offers = refl;
       gas_year = refl;
     }
+
+pub returns-clause-day : goal.returns-clause-day
+unfolding days_before_month days_before_year
+returns-clause-day c = c.number.ensures.value ∙ refl
