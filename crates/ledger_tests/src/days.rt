@@ -34,13 +34,11 @@ pub(crate) fn end_measured(ledger: &mut Ledger, day: MeasuredDay)
 pub(crate) fn opened(ledger: &mut Ledger) -> Result<OpenDay, Fail>
     ensures { IfOk result (λ d. is_open ledger.new.book.phase d.number ≡ true) }
 {
-    match ledger.open(Weather {
+    let day = ledger.open(Weather {
         temperature: 105,
         season: 1,
-    }) {
-        Ok(day) => Ok(day),
-        Err(why) => Err(Fail::new(why.number())),
-    }
+    })?;
+    Ok(day)
 }
 
 // Tries an entry, which leaves the ledger's running day as it is.

@@ -80,6 +80,14 @@ impl Outcome {
         }
     }
 
+    // The same of a call that may also change a sheet: whether it stayed as it was, too.
+    pub(crate) fn with_sheet(self, stayed: bool) -> Outcome {
+        Outcome {
+            unchanged: self.unchanged && stayed,
+            ..self
+        }
+    }
+
     pub(crate) fn accepted(self) -> bool {
         self.number.is_none()
     }

@@ -10,7 +10,7 @@ use crate::named::Profiles;
 use crate::recipe::{Layer, Recipe};
 use crate::report::Report;
 use crate::sheets::Sheets;
-use crate::slips::Slips;
+use crate::slips::{Slips, Unended};
 use crate::station::Station;
 use crate::trouble::Trouble;
 use journal::call::Call;
@@ -66,7 +66,8 @@ impl Player {
         })
     }
 
-    // Plays a call. `numbers` are those of the call's file, where it has one.
+    // Plays a call. `numbers` are those of the call's file, where it has one. A call's weather and particulars are put together here:
+    // the journal's format stands by itself, and its calls know no ledger and no profile, so the new form is no plainer.
     pub fn play(
         &mut self,
         line: u64,
@@ -289,9 +290,7 @@ impl Player {
 
     // The closing report. Slips that are still open are named and withdrawn, and a day that still runs is named and abandoned. Slips that
     // the ledger would not take back come back before anything else: they cannot be let go, so they are the outer error.
-    pub fn close(self, report: &mut Report) -> Result<Result<(), Trouble>, Slips>
-        ensures { IfErr result (λ left. 0 < vec_len left.open) }
-    {
+    pub fn close(self, report: &mut Report) -> Result<Result<(), Trouble>, Unended> {
         let named = tell_open_slips(&self.slips, report);
         let Player {
             heap: _,
@@ -316,9 +315,7 @@ impl Player {
     }
 
     // Withdraws every slip that is still open, and ends the running day.
-    pub fn end(self) -> Result<(), Slips>
-        ensures { IfErr result (λ left. 0 < vec_len left.open) }
-    {
+    pub fn end(self) -> Result<(), Unended> {
         let Player {
             heap: _,
             station,

@@ -29,6 +29,12 @@ pub struct Slips {
     ghost made: { All Made open.items },
 }
 
+// Slips that a ledger would not take back. There is one of them at least.
+pub struct Unended {
+    pub slips: Slips,
+    ghost some: { 0 < vec_len slips.open },
+}
+
 impl Slips {
     // No slip is open yet.
     pub fn new(heap: Global) -> Slips
@@ -160,16 +166,16 @@ impl Slips {
     }
 
     // Withdraws every slip that is still open. The ledger refuses none of its own; a slip that it did refuse comes back, since none can be let go.
-    pub(crate) fn end(self, ledger: &Ledger, sheet: &mut [Point]) -> Result<(), Slips>
-        ensures { IfErr result (λ left. 0 < vec_len left.open) }
-    {
+    pub(crate) fn end(self, ledger: &Ledger, sheet: &mut [Point]) -> Result<(), Unended> {
         let Slips { mut open } = self;
         while let Some(slip) = open.pop() {
             match ledger.withdraw(sheet, slip) {
                 Ok(()) => {}
                 Err(Refused { why: _, given }) => {
                     open.push_reserved(given);
-                    return Err(Slips { open });
+                    return Err(Unended {
+                        slips: Slips { open },
+                    });
                 }
             }
         }

@@ -62,16 +62,15 @@ impl<'a> Span<'a> {
         self.rems.iter().map(|r| u64::from(*r > mark)).sum()
     }
 
-    // Where the cut lies if the remainders are spread evenly.
-    fn even(&self) -> u64
+    // How far from `low` the cut lies if the remainders are spread evenly.
+    fn even_step(&self) -> u64
         requires { self.now.low < self.now.high }
-        ensures from { self.now.low ≤ result }
-        ensures to { result < self.now.high }
+        ensures { result < self.now.high - self.now.low }
     {
         let width = self.high - self.low;
         let step = width * self.reach.saturating_sub(self.wanted)
             / self.reach.saturating_sub(self.past).max(1);
-        self.low + step.min(width - 1)
+        step.min(width - 1)
     }
 
     // The least remainder from `low` on, or `high` where none is below that: as many reach it as reach `low`.
@@ -144,11 +143,12 @@ impl<'a> Span<'a> {
     {
         let mut guesses = 0..GUESSES;
         while self.low < self.high {
-            let mark = if guesses.next().is_some() {
-                self.even()
+            let step = if guesses.next().is_some() {
+                self.even_step()
             } else {
-                self.low + (self.high - self.low) / 2
+                (self.high - self.low) / 2
             };
+            let mark = self.low + step;
             if let Some(cut) = self.cut_at(mark) {
                 return cut;
             }

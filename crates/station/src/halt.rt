@@ -1,7 +1,7 @@
 // Why the playing of a journal stopped.
 use journal::fault::Fault;
 use journal::lines::SheetFault;
-use player::slips::Slips;
+use player::slips::Unended;
 use player::trouble::Trouble;
 use std::alloc::AllocError;
 use std::io;
@@ -48,7 +48,7 @@ impl From<SheetFault> for Halt {
 // ledger's own, is handed on to be ended elsewhere.
 pub enum Stop {
     Error(anyhow::Error),
-    Unended(Slips),
+    Unended(Unended),
 }
 
 impl From<anyhow::Error> for Stop {
@@ -63,8 +63,8 @@ impl From<io::Error> for Stop {
     }
 }
 
-impl From<Slips> for Stop {
-    fn from(slips: Slips) -> Stop {
-        Stop::Unended(slips)
+impl From<Unended> for Stop {
+    fn from(unended: Unended) -> Stop {
+        Stop::Unended(unended)
     }
 }

@@ -7,6 +7,7 @@ mod session;
 
 use halt::{Halt, Stop};
 use help::{HELP, MAKE_ONE};
+use player::slips::Unended;
 use session::{Stopped, play};
 use std::alloc::Global;
 use std::io::{ErrorKind, Read, Write};
@@ -138,7 +139,7 @@ fn main(rt: HostRuntime) -> ExitCode {
             let told: anyhow::Result<()> = Err(e);
             told.report(&rt)
         }
-        Err(Stop::Unended(slips)) => {
+        Err(Stop::Unended(Unended { slips })) => {
             let _ended = slips.end_elsewhere();
             ExitCode::FAILURE
         }

@@ -5,7 +5,7 @@ use journal::lines::{Lines, read_sheet};
 use journal::words::{split, uncommented};
 use player::player::Player;
 use player::report::Report;
-use player::slips::Slips;
+use player::slips::Unended;
 use player::trouble::Trouble;
 use std::fs;
 use std::io::{ErrorKind, Write};
@@ -109,7 +109,7 @@ impl<'a> Session<'a> {
         &mut self,
         mut player: Player,
         mut lines: Numbered<'a>,
-    ) -> Result<Result<(), Halt>, Slips> {
+    ) -> Result<Result<(), Halt>, Unended> {
         match lines.try_for_each(|(line, text)| self.step(&mut player, line, text)) {
             Ok(()) => Ok(player.close(&mut self.report)?.map_err(Halt::Place)),
             Err(halt) => {
@@ -126,7 +126,7 @@ pub(crate) fn play<'a>(
     path: Option<&'a str>,
     text: &'a [u8],
     csv: bool,
-) -> Result<Result<(), Stopped<'a>>, Slips> {
+) -> Result<Result<(), Stopped<'a>>, Unended> {
     let heap = rt.alloc();
     let mut session = Session {
         rt,

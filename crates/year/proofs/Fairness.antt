@@ -9,6 +9,7 @@ use Rattle.std.proofs.lemmas.List.Sums.{sum_by-cons}
 use Rattle.std.proofs.lemmas.Bool.{lt-ltb, le-ltb, le-leb, eq-eqb, ltb-false, eqb-false, and_from, and_right, and_cases, cases_lt}
 use Rattle.profiles.specs.declared.factors.Factors.{Factors}
 use Rattle.shares.specs.Fair.{fair, max_quantity, max_weights, max_weight}
+use Rattle.shares.specs.Fairness.{weightless}
 use Rattle.ledger.specs.declared.point.Point.{Point}
 use Rattle.ledger.specs.Rows.{row_at, no_row, profile_use, profile_uses}
 use Rattle.ledger.specs.Sharing.{Tells, Rule}
@@ -82,19 +83,12 @@ is_fair a ws few short small some =
     (and_from (leb (length ws) max_weights) _ (le-leb _ _ short)
     (and_from (eqb (count_by (λ w. ltb max_weight w) ws) 0) _ (eq-eqb _ 0 (none_over ws small)) (lt-ltb _ _ some)))
 
-not_fair : (a : ℕ) (ws : List ℕ) → sum ws ≡ 0 → fair a ws ≡ false
-unfolding fair
-not_fair a ws none =
-    and_right (leb a max_quantity) _
-    (and_right (leb (length ws) max_weights) _
-    (and_right (eqb (count_by (λ w. ltb max_weight w) ws) 0) (ltb 0 (sum ws)) (le-ltb 0 (sum ws) (omega arith))))
-
 -- a lawful rule's shares are in proportion, and nought where nobody has weight
 proportional : (rule : Rule) (a : ℕ) (ws : List ℕ) (k : ℕ) → LawfulRule rule → a ≤ max_quantity → length ws ≤ max_weights → All (λ w. w ≤ max_weight) ws → k < length ws → Proportional a (sum ws) (get_or ws k 0) (get_or (rule a ws) k 0)
 proportional rule a ws k law few short small h =
     record {
       near = λ some. law.near a ws k (is_fair a ws few short small some) h;
-      none = λ none. ap (λ (xs : List ℕ). get_or xs k 0) (law.refused a ws (not_fair a ws none)) ∙ get_or-replicate (length ws) k 0 0 h;
+      none = λ none. ap (λ (xs : List ℕ). get_or xs k 0) (law.refused a ws (weightless a ws none)) ∙ get_or-replicate (length ws) k 0 0 h;
     }
 
 pub fair_day : (c : List Settlement) (d : Day) (tells : Tells) (rule : Rule) (qs : List ℕ) → LawfulRule rule → quantity_on d ≤ max_quantity → points_in c ≤ max_weights → ((k : ℕ) → k < points_in c → weight_of c d tells k ≤ max_weight) → qs ≡ rule (quantity_on d) (weights c d tells (points_in c)) → FairDay c d tells qs

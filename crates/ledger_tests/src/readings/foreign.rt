@@ -2,42 +2,20 @@
 // ledger's own.
 ghost use Rattle.std.specs.Prelude.{◌≡◌};
 
-use crate::readings::slips::{Call, end, ended, ending, reading};
+use crate::readings::slips::{Call, brought, ended, reading};
 use crate::readings::station::{SECOND, two_points};
-use crate::seen::{Seen, number_of};
+use crate::seen::{Outcome, Seen, number_of};
 use crate::station::ROW;
-use ledger::{Ledger, Point, Refused};
-use refusals::Refusal;
+use ledger::{Ledger, Point};
 use std::test::Fail;
 
-// A refusal changed the ledger or the sheet.
-#[derive(Debug, Drop)]
-struct Changed;
-
-// The number of the refusal where the slip of another ledger's first reading is brought to this one, if any. A refusal has to
-// leave ledger and sheet.
-fn brought(ledger: &mut Ledger, sheet: &mut [Point; 2], call: Call) -> Result<Option<u8>, Fail>
+// How a call is answered with the slip of another ledger's first reading.
+fn tried(ledger: &mut Ledger, sheet: &mut [Point; 2], call: Call) -> Result<Outcome, Fail>
     ensures { ledger.new.book.counts.points ≡ ledger.old.book.counts.points }
 {
     let mut other = two_points()?;
     let theirs = reading(&mut other, &mut [ROW, SECOND], 0, 77)?;
-    let before = Seen::of(ledger);
-    let rows = *sheet;
-    match ending(ledger, sheet, theirs, call) {
-        Ok(_) => Ok(None),
-        Err(Refused { why, given }) => {
-            end(&other, given);
-            if Seen::of(ledger) != before || *sheet != rows {
-                return Err(Changed)?;
-            }
-            Ok(Some(why.number()))
-        }
-    }
-}
-
-// Whether a call was refused by this number.
-fn refused(answer: Result<i64, Refusal>, number: u8) -> bool {
-    number_of(answer) == Some(number)
+    Ok(brought(ledger, sheet, &other, theirs, call))
 }
 
 // The first row while its first slip is open.
@@ -54,9 +32,9 @@ fn another_number(rt: HostRuntime) -> Result<(), Fail> {
     let mut sheet = [Point { slip: 2, ..KEPT }, SECOND];
     let slip = reading(&mut ledger, &mut sheet, 1, 15)?;
     ended(&mut ledger, &mut sheet, slip, Call::Withdraw)?;
-    assert!(rt; brought(&mut ledger, &mut sheet, Call::Book)? == Some(21));
-    assert!(rt; brought(&mut ledger, &mut sheet, Call::HandOver(1))? == Some(21));
-    assert!(rt; brought(&mut ledger, &mut sheet, Call::Withdraw)? == Some(21));
+    assert!(rt; tried(&mut ledger, &mut sheet, Call::Book)?.is(Some(21)));
+    assert!(rt; tried(&mut ledger, &mut sheet, Call::HandOver(1))?.is(Some(21)));
+    assert!(rt; tried(&mut ledger, &mut sheet, Call::Withdraw)?.is(Some(21)));
     Ok(())
 }
 
@@ -68,9 +46,9 @@ fn the_same_number_and_point(rt: HostRuntime) -> Result<(), Fail> {
     let before = Seen::of(&ledger);
     let mut sheet = [ROW, SECOND];
     let own = reading(&mut ledger, &mut sheet, 0, 15)?;
-    let theirs = brought(&mut ledger, &mut sheet, Call::Book);
+    let theirs = tried(&mut ledger, &mut sheet, Call::Book);
     let late = ended(&mut ledger, &mut sheet, own, Call::Book);
-    assert!(rt; theirs? == None && refused(late, 21));
+    assert!(rt; theirs?.accepted() && number_of(late) == Some(21));
     let after = before.with_readings(1).with_booking([25_000, 0], -25_000);
     assert!(rt; Seen::of(&ledger) == after && sheet == [Point { reading: 15, ..ROW }, SECOND]);
     Ok(())
@@ -82,10 +60,8 @@ fn the_same_number_and_point(rt: HostRuntime) -> Result<(), Fail> {
 fn more_bookings_than_readings(rt: HostRuntime) -> Result<(), Fail> {
     let mut ledger = two_points()?;
     let mut sheet = [KEPT, SECOND];
-    assert!(rt; brought(&mut ledger, &mut sheet, Call::Book)? == Some(21));
-    assert!(rt; brought(&mut ledger, &mut sheet, Call::HandOver(1))? == Some(21));
-    assert!(rt;
-        brought(&mut ledger, &mut sheet, Call::Withdraw)? == None && sheet == [ROW, SECOND]
-    );
+    assert!(rt; tried(&mut ledger, &mut sheet, Call::Book)?.is(Some(21)));
+    assert!(rt; tried(&mut ledger, &mut sheet, Call::HandOver(1))?.is(Some(21)));
+    assert!(rt; tried(&mut ledger, &mut sheet, Call::Withdraw)?.is(None) && sheet == [ROW, SECOND]);
     Ok(())
 }

@@ -1,32 +1,28 @@
 // Reading points: what is refused, and what a withdrawn reading leaves.
 use crate::readings::slips::{Call, end, ended, reading};
 use crate::readings::station::{SECOND, two_points};
-use crate::seen::Seen;
+use crate::seen::{Outcome, Seen};
 use crate::station::ROW;
 use ledger::{Ledger, Point};
-use std::process::Abort;
 use std::test::Fail;
 
-// The number of the refusal where a point is read, if any. A refusal has to leave ledger and sheet.
+// How the reading of a point is answered.
 fn tried<const N: usize>(
-    rt: &impl Abort,
     ledger: &mut Ledger,
     rows: [Point; N],
     point: usize,
     dial: u32,
-) -> Result<Option<u8>, Fail> {
+) -> Outcome {
     let before = Seen::of(ledger);
     let mut sheet = rows;
-    match reading(ledger, &mut sheet, point, dial) {
+    let number = match reading(ledger, &mut sheet, point, dial) {
         Ok(slip) => {
             end(ledger, slip);
-            Ok(None)
+            None
         }
-        Err(why) => {
-            assert!(rt; Seen::of(ledger) == before && sheet == rows);
-            Ok(Some(why.number()))
-        }
-    }
+        Err(why) => Some(why.number()),
+    };
+    Outcome::new(number, before, ledger).with_sheet(sheet == rows)
 }
 
 // Each ground, beside one that is told after it where there is one; the last is accepted.
@@ -39,13 +35,13 @@ fn readings_refused(rt: HostRuntime) -> Result<(), Fail> {
         ..ROW
     };
     let open = Point { slip: 1, ..ROW };
-    assert!(rt; tried(&rt, &mut ledger, [ROW; 1], 2, 15)? == Some(1));
-    assert!(rt; tried(&rt, &mut ledger, [ROW; 4097], 0, 15)? == Some(1));
-    assert!(rt; tried(&rt, &mut ledger, [foreign, SECOND, foreign], 2, 15)? == Some(4));
-    assert!(rt; tried(&rt, &mut ledger, [foreign, SECOND], 0, 1_000_000_000)? == Some(11));
-    assert!(rt; tried(&rt, &mut ledger, [open, SECOND], 0, 100_000)? == Some(7));
-    assert!(rt; tried(&rt, &mut ledger, [open, SECOND], 0, 99_999)? == Some(27));
-    assert!(rt; tried(&rt, &mut ledger, [ROW, foreign], 0, 99_999)? == None);
+    assert!(rt; tried(&mut ledger, [ROW; 1], 2, 15).is(Some(1)));
+    assert!(rt; tried(&mut ledger, [ROW; 4097], 0, 15).is(Some(1)));
+    assert!(rt; tried(&mut ledger, [foreign, SECOND, foreign], 2, 15).is(Some(4)));
+    assert!(rt; tried(&mut ledger, [foreign, SECOND], 0, 1_000_000_000).is(Some(11)));
+    assert!(rt; tried(&mut ledger, [open, SECOND], 0, 100_000).is(Some(7)));
+    assert!(rt; tried(&mut ledger, [open, SECOND], 0, 99_999).is(Some(27)));
+    assert!(rt; tried(&mut ledger, [ROW, foreign], 0, 99_999).is(None));
     Ok(())
 }
 
@@ -66,8 +62,8 @@ fn no_reading_after_a_million(rt: HostRuntime) -> Result<(), Fail> {
         withdrawn(&mut ledger, &mut sheet)?;
     }
     assert!(rt; Seen::of(&ledger) == before.with_readings(1_000_000) && sheet == [ROW, SECOND]);
-    assert!(rt; tried(&rt, &mut ledger, sheet, 0, 15)? == Some(28));
-    assert!(rt; tried(&rt, &mut ledger, [Point { slip: 1, ..ROW }, SECOND], 0, 15)? == Some(27));
+    assert!(rt; tried(&mut ledger, sheet, 0, 15).is(Some(28)));
+    assert!(rt; tried(&mut ledger, [Point { slip: 1, ..ROW }, SECOND], 0, 15).is(Some(27)));
     Ok(())
 }
 

@@ -1,51 +1,28 @@
 // Bookings, hand-overs and withdrawals that are refused.
-use crate::readings::slips::{Call, end, ended, ending, reading};
+use crate::readings::slips::{Call, brought, ended, reading};
 use crate::readings::station::{SECOND, three_points, two_points};
-use crate::seen::Seen;
+use crate::seen::{Outcome, Seen, number_of};
 use crate::station::ROW;
-use ledger::{Point, Refused};
-use std::process::Abort;
+use ledger::Point;
 use std::test::Fail;
 
-// The number of the refusal where the slip of the first point's first reading is brought with this sheet, if any. A refusal
-// has to leave ledger and sheet.
-fn tried<const N: usize>(
-    rt: &impl Abort,
-    call: Call,
-    rows: [Point; N],
-) -> Result<Option<u8>, Fail> {
+// How a call is answered with the slip of the first point's first reading and this sheet.
+fn tried<const N: usize>(call: Call, rows: [Point; N]) -> Result<Outcome, Fail> {
     let mut ledger = two_points()?;
     let slip = reading(&mut ledger, &mut [ROW, SECOND], 0, 15)?;
     let before = Seen::of(&ledger);
     let mut sheet = rows;
-    match ended(&mut ledger, &mut sheet, slip, call) {
-        Ok(_) => Ok(None),
-        Err(why) => {
-            assert!(rt; Seen::of(&ledger) == before && sheet == rows);
-            Ok(Some(why.number()))
-        }
-    }
+    let number = number_of(ended(&mut ledger, &mut sheet, slip, call));
+    Ok(Outcome::new(number, before, &ledger).with_sheet(sheet == rows))
 }
 
 // The same where the slip is the third point's of another ledger, and this one has two.
-fn past_the_points<const N: usize>(
-    rt: &impl Abort,
-    call: Call,
-    rows: [Point; N],
-) -> Result<Option<u8>, Fail> {
+fn past_the_points<const N: usize>(call: Call, rows: [Point; N]) -> Result<Outcome, Fail> {
     let mut ledger = two_points()?;
     let mut other = three_points()?;
     let slip = reading(&mut other, &mut [ROW, SECOND, ROW], 2, 15)?;
-    let before = Seen::of(&ledger);
     let mut sheet = rows;
-    match ending(&mut ledger, &mut sheet, slip, call) {
-        Ok(_) => Ok(None),
-        Err(Refused { why, given }) => {
-            end(&other, given);
-            assert!(rt; Seen::of(&ledger) == before && sheet == rows);
-            Ok(Some(why.number()))
-        }
-    }
+    Ok(brought(&mut ledger, &mut sheet, &other, slip, call))
 }
 
 // The first point's row with its slip open; the same out of its ranges, of a trader not admitted, and with another slip open.
@@ -141,7 +118,7 @@ static CASES: [Case; 13] = [
 #[test]
 fn rows_and_slips(rt: HostRuntime) -> Result<(), Fail> {
     for case in &CASES {
-        assert!(rt; tried(&rt, case.call, [case.row, SECOND])? == case.number);
+        assert!(rt; tried(case.call, [case.row, SECOND])?.is(case.number));
     }
     Ok(())
 }
@@ -149,19 +126,19 @@ fn rows_and_slips(rt: HostRuntime) -> Result<(), Fail> {
 // A sheet too short or too long, told before a trader or a row.
 #[test]
 fn sheets_of_a_wrong_length(rt: HostRuntime) -> Result<(), Fail> {
-    assert!(rt; tried(&rt, Call::Book, [FOREIGN; 1])? == Some(1));
-    assert!(rt; tried(&rt, Call::Book, [OPEN; 4097])? == Some(1));
-    assert!(rt; tried(&rt, Call::HandOver(2), [OPEN; 1])? == Some(1));
-    assert!(rt; tried(&rt, Call::Withdraw, [ANOTHER; 1])? == Some(1));
+    assert!(rt; tried(Call::Book, [FOREIGN; 1])?.is(Some(1)));
+    assert!(rt; tried(Call::Book, [OPEN; 4097])?.is(Some(1)));
+    assert!(rt; tried(Call::HandOver(2), [OPEN; 1])?.is(Some(1)));
+    assert!(rt; tried(Call::Withdraw, [ANOTHER; 1])?.is(Some(1)));
     Ok(())
 }
 
 // No such trader is told before no such point, and that before a row.
 #[test]
 fn no_such_trader_or_point(rt: HostRuntime) -> Result<(), Fail> {
-    assert!(rt; past_the_points(&rt, Call::HandOver(2), [OPEN, SECOND, OPEN])? == Some(3));
-    assert!(rt; past_the_points(&rt, Call::HandOver(1), [FOREIGN; 3])? == Some(4));
-    assert!(rt; past_the_points(&rt, Call::Book, [FOREIGN; 3])? == Some(4));
-    assert!(rt; past_the_points(&rt, Call::Withdraw, [ANOTHER; 3])? == Some(4));
+    assert!(rt; past_the_points(Call::HandOver(2), [OPEN, SECOND, OPEN])?.is(Some(3)));
+    assert!(rt; past_the_points(Call::HandOver(1), [FOREIGN; 3])?.is(Some(4)));
+    assert!(rt; past_the_points(Call::Book, [FOREIGN; 3])?.is(Some(4)));
+    assert!(rt; past_the_points(Call::Withdraw, [ANOTHER; 3])?.is(Some(4)));
     Ok(())
 }

@@ -2,6 +2,7 @@
 ghost use Rattle.std.specs.Prelude.{◌≡◌, IfOk, IfErr};
 ghost use Rattle.ledger_tests.specs.Slips.{Endable};
 
+use crate::seen::{Outcome, Seen, number_of};
 use crate::station::ROW;
 use ledger::{Ledger, Point, Refused, Slip};
 use refusals::Refusal;
@@ -62,7 +63,20 @@ pub(crate) fn ending(
     }
 }
 
-// The same for a slip of a point of this ledger's: one that is refused is ended here.
+// The answer of a call with a slip. One that is refused is ended: it is of a point of this ledger's.
+fn settled(answer: Result<i64, Refused<Slip>>, ledger: &Ledger) -> Result<i64, Refusal>
+    requires { IfErr answer (λ e. Endable ledger.now.book e.given) }
+{
+    match answer {
+        Ok(by) => Ok(by),
+        Err(Refused { why, given }) => {
+            end(ledger, given);
+            Err(why)
+        }
+    }
+}
+
+// The same call with a slip of a point of this ledger's.
 pub(crate) fn ended(
     ledger: &mut Ledger,
     sheet: &mut [Point],
@@ -72,11 +86,24 @@ pub(crate) fn ended(
     requires { Endable ledger.old.book slip }
     ensures day { ledger.new.book.phase ≡ ledger.old.book.phase }
 {
-    match ending(ledger, sheet, slip, call) {
-        Ok(by) => Ok(by),
-        Err(Refused { why, given }) => {
-            end(ledger, given);
-            Err(why)
-        }
-    }
+    let answer = ending(ledger, sheet, slip, call);
+    settled(answer, ledger)
+}
+
+// The same call with a slip of a point of another ledger's, and how it was answered.
+pub(crate) fn brought<const N: usize>(
+    ledger: &mut Ledger,
+    sheet: &mut [Point; N],
+    other: &Ledger,
+    slip: Slip,
+    call: Call,
+) -> Outcome
+    requires { Endable other.now.book slip }
+    ensures { ledger.new.book.counts.points ≡ ledger.old.book.counts.points }
+{
+    let before = Seen::of(ledger);
+    let rows = *sheet;
+    let answer = ending(ledger, sheet, slip, call);
+    let number = number_of(settled(answer, other));
+    Outcome::new(number, before, ledger).with_sheet(*sheet == rows)
 }
