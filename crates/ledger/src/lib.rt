@@ -13,6 +13,7 @@ mod slip;
 pub use book::Counts;
 pub use day::{MeasuredDay, OpenDay, SharedOut};
 pub use ledger::Ledger;
+pub use limits::{MAX_LITRES, MAX_POINTS, MAX_RATE};
 pub use point::{Particulars, Point};
 pub use refusals::Refused;
 pub use slip::Slip;

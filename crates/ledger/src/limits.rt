@@ -1,14 +1,14 @@
-// The limits of the ledger, each in this one place.
+// The limits of the ledger, each in this one place. The public ones are told for programs over the ledger.
 
 pub(crate) const MAX_TRADERS: u32 = 64;
 
-pub(crate) const MAX_POINTS: usize = 4096;
+pub const MAX_POINTS: usize = 4096;
 
 // Of a day's inflow, of one entry, and of a day's metered litres together.
-pub(crate) const MAX_LITRES: u64 = 1_000_000_000;
+pub const MAX_LITRES: u64 = 1_000_000_000;
 
 // Of a loss rate, in millionths: all of the inflow.
-pub(crate) const MAX_RATE: u32 = 1_000_000;
+pub const MAX_RATE: u32 = 1_000_000;
 
 pub(crate) const MAX_SHARED: u32 = 4000;
 
