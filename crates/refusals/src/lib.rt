@@ -68,9 +68,10 @@ impl Refusal {
     }
 }
 
-// A refusal that hands back what was given, where that cannot be copied.
+// A refusal that hands back what was given, where that cannot be copied. What was given comes first: it then lies in a result where
+// the accepted value does that it becomes part of, and LLVM takes seconds over a pile of layers; the other way round it took minutes.
 #[derive(Drop)]
 pub struct Refused<T> {
-    pub why: Refusal,
     pub given: T,
+    pub why: Refusal,
 }
