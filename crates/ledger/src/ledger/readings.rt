@@ -1,5 +1,5 @@
 // Readings: a slip is opened, and ended by a booking, a hand-over or a withdrawal.
-ghost use Rattle.std.specs.Prelude.{◌≡◌, ◌+◌, ◌*◌, ◌^◌, ◌<◌, ◌≤◌, true};
+ghost use Rattle.std.specs.Prelude.{◌≡◌, ◌+◌, ◌*◌, ◌^◌, ◌<◌, ◌≤◌, true, Some, None, IfOk, IfErr};
 ghost use Rattle.ledger.specs.Grounds.{answered};
 ghost use Rattle.ledger.specs.History.{Goes, PointRead, Booked, HandedOver, Withdrawn};
 ghost use Rattle.ledger.specs.Readings.{turned, new_scale, slipped, row_use, row_correction, booked_row, is_slip_of, may_book, booked_book};
@@ -45,25 +45,6 @@ impl Point {
         self.in_range() && self.trader < traders
     }
 
-    // The litres used since the last booking, by the reading that the row keeps.
-    fn kept_use(&self) -> u64
-        requires { in_range self.now ≡ true }
-        ensures value { result ≡ row_use self.now }
-        ensures bound { result ≤ 200_000_000_000 }
-    {
-        u64::from(dial_turned(self.digits, self.reading, self.kept_reading))
-            * u64::from(self.litres_per_unit)
-    }
-
-    // What booking the row moves.
-    fn correction(&self) -> i64
-        requires { in_range self.now ≡ true }
-        ensures { result ≡ row_correction self.now }
-    {
-        // Casts: there is no `From` of u64 for i64.
-        self.kept_use() as i64 - self.open_sum as i64
-    }
-
     // The row with this slip and kept reading.
     fn with_slip(self, slip: u32, kept_reading: u32) -> Point
         ensures { result ≡ slipped self slip kept_reading }
@@ -74,21 +55,48 @@ impl Point {
             ..self
         }
     }
+}
+
+// A row that was tested before a booking and lies within its ranges, so that all that the booking works out of it fits.
+#[derive(Clone, Copy)]
+struct FitRow {
+    row: Point,
+    ghost in_range: { in_range row ≡ true },
+}
+
+impl FitRow {
+    // The litres used since the last booking, by the reading that the row keeps.
+    fn kept_use(&self) -> u64
+        ensures value { result ≡ row_use self.now.row }
+        ensures bound { result ≤ 200_000_000_000 }
+    {
+        let row = self.row;
+        u64::from(dial_turned(row.digits, row.reading, row.kept_reading))
+            * u64::from(row.litres_per_unit)
+    }
+
+    // What booking the row moves.
+    fn correction(&self) -> i64
+        ensures { result ≡ row_correction self.now.row }
+    {
+        // Casts: there is no `From` of u64 for i64.
+        self.kept_use() as i64 - self.row.open_sum as i64
+    }
 
     // The row after its kept reading was booked, and the trader who has it then.
-    fn booked(self, trader: u32) -> Point
-        requires { in_range self ≡ true }
-        ensures { result ≡ booked_row self trader }
+    fn booked(&self, trader: u32) -> Point
+        ensures { result ≡ booked_row self.now.row trader }
     {
+        let row = self.row;
         Point {
             trader,
-            reading: self.kept_reading,
-            scale_factor: scale_after(self.scale_factor, self.kept_use(), self.period_sum),
+            reading: row.kept_reading,
+            scale_factor: scale_after(row.scale_factor, self.kept_use(), row.period_sum),
             open_sum: 0,
             period_sum: 0,
             slip: 0,
             kept_reading: 0,
-            ..self
+            ..row
         }
     }
 }
@@ -151,8 +159,9 @@ impl Ledger {
     }
 
     // The row of a slip that can be booked: its own open one, where there are fewer bookings than readings.
-    fn bookable(&self, sheet: &[Point], slip: &Slip) -> Result<Point, Refusal>
-        ensures { result ≡ answered (book_fault self.now.book sheet.now slip.now) (row_at sheet.now slip.now.point) }
+    fn bookable(&self, sheet: &[Point], slip: &Slip) -> Result<FitRow, Refusal>
+        ensures ok { IfOk result (λ fit. (book_fault self.now.book sheet.now slip.now ≡ None) × (fit.row ≡ row_at sheet.now slip.now.point)) }
+        ensures err { IfErr result (λ why. book_fault self.now.book sheet.now slip.now ≡ Some why) }
     {
         let row = self.row(sheet, slip.point)?;
         if !row.may_book(self.book.counts.traders) {
@@ -161,18 +170,18 @@ impl Ledger {
         if !row.is_slip(slip.number) || self.book.counts.bookings >= self.book.counts.readings {
             return Err(Refusal::NotOpenSlip);
         }
-        Ok(row)
+        Ok(FitRow { row })
     }
 
     // Adds the row's correction to its trader's account, and takes it from the distributor's.
-    fn book_row(&mut self, row: Point) -> i64
-        requires row { may_book self.old.book.counts.traders row ≡ true }
+    fn book_row(&mut self, fit: &FitRow) -> i64
+        requires owned { fit.now.row.trader < self.old.book.counts.traders }
         requires left { self.old.book.counts.bookings < self.old.book.counts.readings }
-        ensures told { result ≡ row_correction row }
-        ensures state { self.new.book ≡ booked_book self.old.book row }
+        ensures told { result ≡ row_correction fit.now.row }
+        ensures state { self.new.book ≡ booked_book self.old.book fit.now.row }
     {
-        let by = row.correction();
-        self.book.traders[row.trader as usize].account += by;
+        let by = fit.correction();
+        self.book.traders[fit.row.trader as usize].account += by;
         self.book.correction -= by;
         self.book.counts.bookings += 1;
         by
@@ -187,26 +196,27 @@ impl Ledger {
     {
         match self.bookable(sheet, &slip) {
             Err(why) => Err(Refused { why, given: slip }),
-            Ok(row) => {
+            Ok(fit) => {
                 let Slip { number: _, point } = slip;
-                let told = self.book_row(row);
-                sheet[point] = row.booked(row.trader);
+                let told = self.book_row(&fit);
+                sheet[point] = fit.booked(fit.row.trader);
                 Ok(told)
             }
         }
     }
 
     // The row of a point that can be handed over.
-    fn transferable(&self, sheet: &[Point], slip: &Slip, trader: u32) -> Result<Point, Refusal>
-        ensures { result ≡ answered (hand_fault self.now.book sheet.now slip.now trader) (row_at sheet.now slip.now.point) }
+    fn transferable(&self, sheet: &[Point], slip: &Slip, trader: u32) -> Result<FitRow, Refusal>
+        ensures ok { IfOk result (λ fit. (hand_fault self.now.book sheet.now slip.now trader ≡ None) × (fit.row ≡ row_at sheet.now slip.now.point)) }
+        ensures err { IfErr result (λ why. hand_fault self.now.book sheet.now slip.now trader ≡ Some why) }
     {
         self.rows(sheet)?;
         self.trader(trader)?;
-        let row = self.bookable(sheet, slip)?;
-        if row.trader == trader {
+        let fit = self.bookable(sheet, slip)?;
+        if fit.row.trader == trader {
             return Err(Refusal::SameTrader);
         }
-        Ok(row)
+        Ok(fit)
     }
 
     // Hands a point over: books the reading for the trader who had it, and then the point is the new trader's. The steps are those of
@@ -224,10 +234,10 @@ impl Ledger {
     {
         match self.transferable(sheet, &slip, trader) {
             Err(why) => Err(Refused { why, given: slip }),
-            Ok(row) => {
+            Ok(fit) => {
                 let Slip { number: _, point } = slip;
-                let by = self.book_row(row);
-                sheet[point] = row.booked(trader);
+                let by = self.book_row(&fit);
+                sheet[point] = fit.booked(trader);
                 Ok(by)
             }
         }

@@ -4,22 +4,16 @@ use Rattle.ledger.specs.declared.point.Point.{Point}
 use Rattle.ledger.specs.History.{next}
 use Rattle.ledger.specs.Readings.{book_fault}
 use Rattle.ledger.proofs.AcceptedReadings.{books}
-use Rattle.ledger.proofs.Booking.{told_may, told_ranges, booked_step}
+use Rattle.ledger.proofs.Booking.{booked_step}
 use Rattle.ledger.proofs.ledger.Ledger.book.Goals as goal
 
-pub book_row-told-requires-clause-row : goal.book_row-told-requires-clause-row
-book_row-told-requires-clause-row c =
+pub book_row-told-requires-clause-owned : goal.book_row-told-requires-clause-owned
+book_row-told-requires-clause-owned c =
     let l = c.args.self.now.book in
     let s = c.args.sheet.now in
     let slip = c.args.slip in
-    told_may l s slip (book_fault l s slip) c.in-Ok.row c.in-Ok.ensures (books l s slip)
-
-pub booked-requires : goal.booked-requires
-booked-requires c =
-    let l = c.args.self.now.book in
-    let s = c.args.sheet.now in
-    let slip = c.args.slip in
-    told_ranges l s slip (book_fault l s slip) c.in-Ok.row c.in-Ok.ensures (books l s slip)
+    let k = c.in-Ok.ensures.ok in
+    rw k.1 (books l s slip k.0).owned
 
 pub returns-in-Err-clause-run : goal.returns-in-Err-clause-run
 returns-in-Err-clause-run c = λ h p. next p (record { answer = grind (arith, common_steps); state = grind (arith, common_steps); rows = grind (arith, common_steps) })
@@ -29,6 +23,7 @@ returns-in-Ok c =
     let l = c.args.self.now.book in
     let s = c.args.sheet.now in
     let slip = c.args.slip in
+    let k = c.in-Ok.ensures.ok in
     let b = c.book_row-told.ensures in
-    let e = booked_step l s slip (book_fault l s slip) c.in-Ok.row c.in-Ok.ensures (λ (r : Point). r.trader) c.book_row-told.result c.book_row-told.new.self.book c.booked.result (search rules) b.told b.state c.booked.ensures in
+    let e = booked_step l s slip (book_fault l s slip) c.in-Ok.fit.row k.0 k.1 (λ (r : Point). r.trader) c.book_row-told.result c.book_row-told.new.self.book c.booked.result (search rules) b.told b.state c.booked.ensures in
     record { answer = e.answer; state = e.state; rows = e.rows; run = λ h p. next p e }

@@ -4,22 +4,16 @@ use Rattle.ledger.specs.declared.point.Point.{Point}
 use Rattle.ledger.specs.History.{next}
 use Rattle.ledger.specs.Readings.{hand_fault}
 use Rattle.ledger.proofs.AcceptedReadings.{hands_over}
-use Rattle.ledger.proofs.Booking.{told_may, told_ranges, booked_step}
+use Rattle.ledger.proofs.Booking.{booked_step}
 use Rattle.ledger.proofs.ledger.Ledger.hand_over.Goals as goal
 
-pub book_row-by-requires-clause-row : goal.book_row-by-requires-clause-row
-book_row-by-requires-clause-row c =
+pub book_row-by-requires-clause-owned : goal.book_row-by-requires-clause-owned
+book_row-by-requires-clause-owned c =
     let l = c.args.self.now.book in
     let s = c.args.sheet.now in
     let slip = c.args.slip in
-    told_may l s slip (hand_fault l s slip c.args.trader) c.in-Ok.row c.in-Ok.ensures (λ n. (hands_over l s slip c.args.trader n).books)
-
-pub booked-requires : goal.booked-requires
-booked-requires c =
-    let l = c.args.self.now.book in
-    let s = c.args.sheet.now in
-    let slip = c.args.slip in
-    told_ranges l s slip (hand_fault l s slip c.args.trader) c.in-Ok.row c.in-Ok.ensures (λ n. (hands_over l s slip c.args.trader n).books)
+    let k = c.in-Ok.ensures.ok in
+    rw k.1 ((hands_over l s slip c.args.trader k.0).books).owned
 
 pub returns-in-Err-clause-run : goal.returns-in-Err-clause-run
 returns-in-Err-clause-run c = λ h p. next p (record { answer = grind (arith, common_steps); state = grind (arith, common_steps); rows = grind (arith, common_steps) })
@@ -29,6 +23,7 @@ returns-in-Ok c =
     let l = c.args.self.now.book in
     let s = c.args.sheet.now in
     let slip = c.args.slip in
+    let k = c.in-Ok.ensures.ok in
     let b = c.book_row-by.ensures in
-    let e = booked_step l s slip (hand_fault l s slip c.args.trader) c.in-Ok.row c.in-Ok.ensures (λ (r : Point). c.args.trader) c.book_row-by.result c.book_row-by.new.self.book c.booked.result (search rules) b.told b.state c.booked.ensures in
+    let e = booked_step l s slip (hand_fault l s slip c.args.trader) c.in-Ok.fit.row k.0 k.1 (λ (r : Point). c.args.trader) c.book_row-by.result c.book_row-by.new.self.book c.booked.result (search rules) b.told b.state c.booked.ensures in
     record { answer = e.answer; state = e.state; rows = e.rows; run = λ h p. next p e }

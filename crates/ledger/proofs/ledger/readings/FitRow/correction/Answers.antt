@@ -1,11 +1,11 @@
 use Rattle.std.proofs.Common.{arith}
 use Rattle.std.proofs.lemmas.Int.{ints}
 use Rattle.ledger.proofs.Corrections.{ranged}
-use Rattle.ledger.proofs.point.Point.correction.Goals as goal
+use Rattle.ledger.proofs.ledger.readings.FitRow.correction.Goals as goal
 
 pub returns : goal.returns
 returns c =
-    let r = ranged c.args.self.now c.requires in
+    let r = ranged c.args.self.now.row c.args.self.now.in_range in
     let v = c.kept_use.ensures.value in
     let b = c.kept_use.ensures.bound in
     omega (arith, ints)
