@@ -1,6 +1,7 @@
 -- One turn of the loop that books the shares.
 use Rattle.std.proofs.Common.{◌≡◌, ℕ, ◌+◌, ◌<◌, ◌≤◌, List, length, get_or, set, pos, ◌≤ℤ◌, sum, sym, ap, ◌∙◌, subst, arith}
 use Rattle.std.proofs.lemmas.Int.{ints}
+use Rattle.std.proofs.lemmas.List.Sums.{sum_by-take-le, get_or-le-sum_by}
 use Rattle.profiles.specs.declared.factors.Factors.{Factors}
 use Rattle.ledger.specs.declared.book.Trader.{Trader}
 use Rattle.ledger.specs.declared.point.Point.{Point}
@@ -9,13 +10,13 @@ use Rattle.ledger.specs.Limits.{max_litres, max_traders}
 use Rattle.ledger.specs.Rows.{Shareable, row_at, shared_row, shared_rows}
 use Rattle.ledger.specs.Sharing.{Creditable}
 use Rattle.ledger.proofs.Rows.{shared_rows_later, shared_rows_more}
-use Rattle.ledger.proofs.Traders.{sum-take, get_or_le_sum, credited_to_more, length_credited_to, metered_credited_to, near_credited_to, metered_le}
+use Rattle.ledger.proofs.Traders.{credited_to_more, length_credited_to, metered_credited_to, near_credited_to, metered_le}
 
 -- no account passes what an account can hold
 pub credit_within : (ts : List Trader) (s : List Point) (shares : List ℕ) → ((t : ℕ) → Near (account_at ts t) 5_900_000_000_000_000_000) → sum shares ≤ max_litres → (i t : ℕ) → account_at (credited_to ts s shares i) t ≤ℤ pos 6_000_000_000_000_000_000
 credit_within ts s shares h small i t =
     let a = (near_credited_to ts s shares i 5_900_000_000_000_000_000 h t).high in
-    let b = sum-take shares i in
+    let b = sum_by-take-le (λ (n : ℕ). n) shares i in
     omega (arith, ints)
 
 module _ (told : ℕ → Factors) (ts : List Trader) (s : List Point) (shares : List ℕ) (ok : Creditable ts s shares) where
@@ -40,7 +41,7 @@ module _ (told : ℕ → Factors) (ts : List Trader) (s : List Point) (shares : 
         row = same;
         place = omega arith;
         may = may;
-        share = let g = get_or_le_sum shares i in omega arith;
+        share = let g = get_or-le-sum_by (λ (n : ℕ). n) shares i 0 h in omega arith;
         account = subst (λ (v : List Trader). account_at v (row_at s' i).trader ≤ℤ pos 6_000_000_000_000_000_000) (sym e) (credit_within ts s shares ok.accounts w i (row_at s' i).trader);
       }
 

@@ -1,6 +1,8 @@
 -- Every call keeps what always holds of a ledger, whatever is handed in.
 use Rattle.std.proofs.Common.{◌≡◌, ℕ, ◌+◌, ◌-◌, ◌*◌, ◌≤◌, true, ◌&&◌, eqb, leb, List, map, length, ℤ, pos, sum, sym, refl, ap, ◌∙◌, subst, ⊎_elim, arith}
 use Rattle.std.proofs.lemmas.List.{length-set, length-map}
+use Rattle.std.proofs.lemmas.List.Folds.{sum_by-replicate}
+use Rattle.std.proofs.lemmas.List.Sums.{sum_by-take-le}
 use Rattle.std.proofs.lemmas.Int.{ints}
 use Rattle.std.proofs.lemmas.Bool.{leb-true, eqb-true, le-leb, eq-eqb, and_parts, and_from, cases_Bool, false≢true}
 use Rattle.shares.specs.Fair.{fair}
@@ -13,13 +15,13 @@ use Rattle.ledger.specs.declared.day.Phase.TheVariants.{Idle, Open, Measured}
 use Rattle.ledger.specs.declared.point.Particulars.{Particulars}
 use Rattle.ledger.specs.declared.point.Point.{Point}
 use Rattle.ledger.specs.Limits.{max_traders, max_litres, max_shared, max_opened, last_day}
-use Rattle.ledger.specs.Accounts.{account_at, metered_at, metered_sum, new_book, unmetered, settled, credited_to, Near, reach, day_holds, pending, Sound, Settling}
+use Rattle.ledger.specs.Accounts.{no_trader, account_at, metered_at, metered_sum, new_book, unmetered, settled, credited_to, Near, reach, day_holds, pending, Sound, Settling}
 use Rattle.ledger.specs.Days.{admit_fault, admit_book, point_fault, point_book, open_fault, open_book, is_open, enter_fault, enter_book, loss_of, quantity_of, inflow_fault, inflow_book, is_measured, ended, abandon_open_fault, abandon_open_book, abandon_measured_fault, abandon_measured_book}
 use Rattle.ledger.specs.Sharing.{Tells, Rule, day_quantity, day_loss, day_uses, day_shares, share_fault, shared_book, share_book}
 use Rattle.ledger.specs.History.{LawfulRule}
 use Rattle.ledger.proofs.Grounds.{by_unless}
 use Rattle.ledger.proofs.Accepted.{admits, point_fits, day_opens, enters, takes_inflow, shares_out}
-use Rattle.ledger.proofs.Traders.{near_none, near_pos, near_more, near_add, sum-take, sum_zeros, account_entered, metered_sum-entered, metered_sum_none, metered_le, account_unmetered, account_settled, new_at, new_metered, length_credited_to, metered_credited_to, near_credited_to}
+use Rattle.ledger.proofs.Traders.{near_none, near_pos, near_more, near_add, account_entered, metered_sum-entered, metered_sum_none, metered_le, account_unmetered, account_settled, new_at, length_credited_to, metered_credited_to, near_credited_to}
 
 -- A new ledger.
 
@@ -29,8 +31,8 @@ new_sound first =
       places = refl;
       traders = omega arith;
       points = omega arith;
-      metered = let e = new_metered max_traders in omega arith;
-      day = eq-eqb _ 0 (new_metered max_traders);
+      metered = let e = sum_by-replicate (λ (u : Trader). u.metered) max_traders no_trader in omega arith;
+      day = eq-eqb _ 0 (sum_by-replicate (λ (u : Trader). u.metered) max_traders no_trader);
       opened = omega arith;
       shared = omega arith;
       readings = omega arith;
@@ -235,7 +237,7 @@ pub shares_within : {rule : Rule} → LawfulRule rule → (q : ℕ) (ws : List �
 shares_within {rule} law q ws =
     ⊎_elim
     (λ yes. let e = law.whole q ws yes in omega arith)
-    (λ no. let e : sum (rule q ws) ≡ 0 = ap sum (law.refused q ws no) ∙ sum_zeros (length ws) in omega arith)
+    (λ no. let e : sum (rule q ws) ≡ length ws * 0 = ap sum (law.refused q ws no) ∙ sum_by-replicate (λ (n : ℕ). n) (length ws) 0 in omega arith)
     (cases_Bool (fair q ws))
 
 -- what is known of a measured day
@@ -269,7 +271,7 @@ settling l s shares i h few =
       within =
           λ t.
           let a = (near_credited_to ts s shares i (reach l.counts) h.accounts t).high in
-          let b = sum-take shares i in
+          let b = sum_by-take-le (λ (n : ℕ). n) shares i in
           let c = h.shared in
           let d = h.bookings in
           let r = h.readings in
@@ -288,7 +290,7 @@ shared_sound l s shares h due total =
     h.points h.opened (omega arith) h.readings h.bookings (omega arith)
     (λ t.
     let a = near_credited_to ts s shares n (reach l.counts) h.accounts t in
-    let b = sum-take shares n in
+    let b = sum_by-take-le (λ (n : ℕ). n) shares n in
     let e = metered_credited_to ts s shares n t in
     let c = metered_le ts t in
     let y = metered_at credits t in

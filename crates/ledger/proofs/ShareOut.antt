@@ -3,6 +3,7 @@ use Rattle.std.proofs.Common.{◌≡◌, ℕ, zero, suc, ◌+◌, ◌<◌, ◌�
 use Rattle.std.specs.List.{range_with_len}
 use Rattle.std.proofs.lemmas.List.FromFn.{get_or-map-range_with_len}
 use Rattle.std.proofs.lemmas.List.{ext_get_or, length-map, length-take-le, get_or-map, get_or-take, get_or_append_left, take_at}
+use Rattle.std.proofs.lemmas.List.Sums.{sum_by-cons}
 use Rattle.std.proofs.lemmas.Bool.{leb-true, and_parts, false≢true, cond-true, cond-false}
 use Rattle.std.proofs.lemmas.Bool.Decides.{nat_tests}
 use Rattle.refusals.specs.declared.Refusal.{Refusal}
@@ -29,7 +30,7 @@ use Rattle.ledger.proofs.Crediting.{settling}
 use Rattle.ledger.proofs.Keep.{shares_within, shared_sound}
 use Rattle.ledger.proofs.Ranges.{shareable}
 use Rattle.ledger.proofs.Rows.{every_at, tested, shared_rows_part}
-use Rattle.ledger.proofs.Traders.{near_more, sum_cons, credited_to_part}
+use Rattle.ledger.proofs.Traders.{near_more, credited_to_part}
 
 -- lists by their first places
 
@@ -73,7 +74,7 @@ uses_same f g s n r h =
 none_left : (xs : List ℕ) → sum xs ≡ 0 → xs ≡ replicate (length xs) 0
 none_left [] e = refl
 none_left (x ∷ xs) e =
-    let c = sum_cons x xs in
+    let c = sum_by-cons (λ (n : ℕ). n) x xs in
     let a : x ≡ 0 = omega arith in
     let b : sum xs ≡ 0 = omega arith in
     ap (λ (y : ℕ). y ∷ xs) a ∙ ap (λ u. 0 ∷ u) (none_left xs b)

@@ -1,11 +1,12 @@
 -- All accounts together: what an entry, the credits and the end of a day make of them.
 use Rattle.std.proofs.Common.{◌≡◌, ℕ, zero, suc, ◌<◌, ◌≤◌, List, [], ◌∷◌, map, length, get_or, take, set, replicate, ℤ, pos, ◌+ℤ◌, sum, refl, ap, arith}
 use Rattle.std.proofs.lemmas.Int.{ints}
+use Rattle.std.proofs.lemmas.List.Sums.{sum_by-cons}
 use Rattle.ledger.specs.declared.book.Trader.{Trader}
 use Rattle.ledger.specs.declared.point.Point.{Point}
 use Rattle.ledger.specs.Accounts.{no_trader, account_at, metered_at, metered_sum, all_accounts, credited, credited_to, entered, settled, unmetered}
 use Rattle.ledger.specs.Rows.{row_at}
-use Rattle.ledger.proofs.Traders.{metered_sum_cons, sum-take-suc, length_credited_to}
+use Rattle.ledger.proofs.Traders.{sum-take-suc, length_credited_to}
 
 pub total_set : (ts : List Trader) (j : ℕ) (x : Trader) → j < length ts → all_accounts (set ts j x) +ℤ account_at ts j ≡ all_accounts ts +ℤ x.account
 unfolding all_accounts
@@ -56,7 +57,7 @@ unfolding all_accounts
 total_settled [] = refl
 total_settled (t ∷ ts) =
     let before = total_settled ts in
-    let m = metered_sum_cons t ts in
+    let m = sum_by-cons (λ (u : Trader). u.metered) t ts in
     let r : (t.account +ℤ pos t.metered) +ℤ all_accounts (map settled ts) ≡ (t.account +ℤ all_accounts ts) +ℤ pos (metered_sum (t ∷ ts)) = omega (arith, ints) in
     r
 

@@ -1,7 +1,8 @@
 -- Lemmas on lists of traders: their accounts and metered sums after an entry, a credit and the end of a day.
-use Rattle.std.proofs.Common.{◌≡◌, ℕ, zero, suc, ◌+◌, ◌<◌, ◌≤◌, cond, eqb, List, [], ◌∷◌, map, length, get_or, take, set, replicate, ℤ, pos, ◌+ℤ◌, ◌-ℤ◌, sum, sym, refl, ap, ◌∙◌, add_comm, zero-add, add-one, arith}
-use Rattle.std.proofs.lemmas.List.{length-set, get_or-take}
-use Rattle.std.proofs.lemmas.List.Sums.{sum_by-cons, sum_by-set, sum_by-take-le}
+use Rattle.std.proofs.Common.{◌≡◌, ℕ, zero, suc, ◌+◌, ◌<◌, ◌≤◌, cond, eqb, List, [], ◌∷◌, map, length, get_or, take, set, replicate, ℤ, pos, ◌+ℤ◌, ◌-ℤ◌, sum, sum_by, sym, refl, ap, ◌∙◌, add_comm, zero-add, ⊎_elim, add-one, arith}
+use Rattle.std.proofs.lemmas.List.{length-set, get_or-take, get_or_past, take_all}
+use Rattle.std.proofs.lemmas.List.Sums.{sum_by-cons, sum_by-set, sum_by_more, get_or-le-sum_by}
+use Rattle.std.proofs.lemmas.Bool.{cases_lt}
 use Rattle.std.proofs.lemmas.Int.{ints}
 use Rattle.ledger.specs.declared.book.Trader.{Trader}
 use Rattle.ledger.specs.declared.point.Point.{Point}
@@ -39,40 +40,29 @@ near_sub z y b c h e =
     let v = e.low in
     record { high = omega (arith, ints); low = omega (arith, ints) }
 
--- Sums.
+-- Sums: the library's lemmas ask for a place within the list, and these hold past its end too.
 
-pub sum_cons : (x : ℕ) (xs : List ℕ) → sum (x ∷ xs) ≡ x + sum xs
-sum_cons x xs = sum_by-cons (λ (n : ℕ). n) x xs
-
-pub sum-take : (xs : List ℕ) (i : ℕ) → sum (take i xs) ≤ sum xs
-sum-take xs i = sum_by-take-le (λ (n : ℕ). n) xs i
-
-pub sum-take-suc : (xs : List ℕ) (i : ℕ) → sum (take (suc i) xs) ≡ sum (take i xs) + get_or xs i 0
-sum-take-suc [] zero = refl
-sum-take-suc [] (suc i) = refl
-sum-take-suc (x ∷ xs) zero = omega arith
-sum-take-suc (x ∷ xs) (suc i) =
-    let h = sum-take-suc xs i in
-    let e = sum_cons x (take (suc i) xs) in
-    let f = sum_cons x (take i xs) in
-    let r : sum (x ∷ take (suc i) xs) ≡ sum (x ∷ take i xs) + get_or xs i 0 = omega arith in
-    r
+at_le_sum : {X : Type 0} (f : X → ℕ) (xs : List X) (k : ℕ) (d : X) → f d ≡ 0 → f (get_or xs k d) ≤ sum_by f xs
+at_le_sum f xs k d z =
+    ⊎_elim (λ lt. get_or-le-sum_by f xs k d lt) (λ ge. let e = ap f (get_or_past xs k d ge) in omega arith) (cases_lt k (length xs))
 
 pub get_or_le_sum : (xs : List ℕ) (k : ℕ) → get_or xs k 0 ≤ sum xs
-get_or_le_sum [] k = omega arith
-get_or_le_sum (x ∷ xs) zero =
-    let e = sum_cons x xs in
-    let r : x ≤ sum (x ∷ xs) = omega arith in
-    r
-get_or_le_sum (x ∷ xs) (suc k) =
-    let e = sum_cons x xs in
-    let h = get_or_le_sum xs k in
-    let r : get_or xs k 0 ≤ sum (x ∷ xs) = omega arith in
-    r
+get_or_le_sum xs k = at_le_sum (λ (n : ℕ). n) xs k 0 refl
 
-pub sum_zeros : (n : ℕ) → sum (replicate n 0) ≡ 0
-sum_zeros zero = refl
-sum_zeros (suc n) = sum_cons 0 (replicate n 0) ∙ zero-add _ ∙ sum_zeros n
+-- no trader metered more than all did
+pub metered_le : (ts : List Trader) (t : ℕ) → metered_at ts t ≤ metered_sum ts
+metered_le ts t = at_le_sum (λ (u : Trader). u.metered) ts t no_trader refl
+
+pub sum-take-suc : (xs : List ℕ) (i : ℕ) → sum (take (suc i) xs) ≡ sum (take i xs) + get_or xs i 0
+sum-take-suc xs i =
+    ⊎_elim
+    (λ lt. rw (← add-one) (sum_by_more (λ (n : ℕ). n) xs i 0 lt))
+    (λ ge.
+    let all = ap sum (take_all i xs ge) in
+    let more = ap sum (take_all (suc i) xs (omega arith)) in
+    let past = get_or_past xs i 0 ge in
+    omega arith)
+    (cases_lt i (length xs))
 
 -- One trader changed.
 
@@ -98,27 +88,11 @@ metered_set ts j x t e = field_set (λ (u : Trader). u.metered) ts j x t e
 pub account_set : (ts : List Trader) (j : ℕ) (x : Trader) (t : ℕ) → x.account ≡ account_at ts j → account_at (set ts j x) t ≡ account_at ts t
 account_set ts j x t e = field_set (λ (u : Trader). u.account) ts j x t e
 
-pub metered_sum_cons : (t : Trader) (ts : List Trader) → metered_sum (t ∷ ts) ≡ t.metered + metered_sum ts
-metered_sum_cons t ts = sum_by-cons (λ (u : Trader). u.metered) t ts
-
 pub metered_sum-set : (ts : List Trader) (j : ℕ) (x : Trader) → x.metered ≡ metered_at ts j → metered_sum (set ts j x) ≡ metered_sum ts
 metered_sum-set [] j x e = refl
-metered_sum-set (t ∷ ts) zero x e = metered_sum_cons x ts ∙ ap (λ n. n + metered_sum ts) e ∙ sym (metered_sum_cons t ts)
+metered_sum-set (t ∷ ts) zero x e = sum_by-cons (λ (u : Trader). u.metered) x ts ∙ ap (λ n. n + metered_sum ts) e ∙ sym (sum_by-cons (λ (u : Trader). u.metered) t ts)
 metered_sum-set (t ∷ ts) (suc j) x e =
-    metered_sum_cons t (set ts j x) ∙ ap (λ n. t.metered + n) (metered_sum-set ts j x e) ∙ sym (metered_sum_cons t ts)
-
--- no trader metered more than all did
-pub metered_le : (ts : List Trader) (t : ℕ) → metered_at ts t ≤ metered_sum ts
-metered_le [] t = omega arith
-metered_le (u ∷ ts) zero =
-    let e = metered_sum_cons u ts in
-    let r : u.metered ≤ metered_sum (u ∷ ts) = omega arith in
-    r
-metered_le (u ∷ ts) (suc t) =
-    let e = metered_sum_cons u ts in
-    let h = metered_le ts t in
-    let r : metered_at ts t ≤ metered_sum (u ∷ ts) = omega arith in
-    r
+    sum_by-cons (λ (u : Trader). u.metered) t (set ts j x) ∙ ap (λ n. t.metered + n) (metered_sum-set ts j x e) ∙ sym (sum_by-cons (λ (u : Trader). u.metered) t ts)
 
 -- An entry.
 
@@ -144,7 +118,7 @@ account_entered ts j q t = account_set ts j _ t refl
 pub metered_sum_none : (f : Trader → Trader) → ((t : Trader) → (f t).metered ≡ 0) → (ts : List Trader) → metered_sum (map f ts) ≡ 0
 metered_sum_none f z [] = refl
 metered_sum_none f z (t ∷ ts) =
-    metered_sum_cons (f t) (map f ts) ∙ ap (λ n. n + metered_sum (map f ts)) (z t) ∙ zero-add (metered_sum (map f ts)) ∙ metered_sum_none f z ts
+    sum_by-cons (λ (u : Trader). u.metered) (f t) (map f ts) ∙ ap (λ n. n + metered_sum (map f ts)) (z t) ∙ zero-add (metered_sum (map f ts)) ∙ metered_sum_none f z ts
 
 pub metered_none : (f : Trader → Trader) → ((t : Trader) → (f t).metered ≡ 0) → (ts : List Trader) (t : ℕ) → metered_at (map f ts) t ≡ 0
 metered_none f z [] t = refl
@@ -167,10 +141,6 @@ pub new_at : (n t : ℕ) → get_or (replicate n no_trader) t no_trader ≡ no_t
 new_at zero t = refl
 new_at (suc n) zero = refl
 new_at (suc n) (suc t) = new_at n t
-
-pub new_metered : (n : ℕ) → metered_sum (replicate n no_trader) ≡ 0
-new_metered zero = refl
-new_metered (suc n) = metered_sum_cons no_trader (replicate n no_trader) ∙ zero-add _ ∙ new_metered n
 
 -- The shares credited, row by row.
 
