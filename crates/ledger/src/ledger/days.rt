@@ -139,7 +139,8 @@ impl Ledger {
         Ok(())
     }
 
-    // Ends an open day with nothing settled.
+    // Ends an open day with nothing settled, and below a measured one. One public call over `Token` would make that trait public, with how
+    // a token ends and the ledger's phase, which only the ledger may know, and would save two calls of one line: no plainer.
     pub fn abandon_open(&mut self, day: OpenDay) -> Result<(), Refused<OpenDay>>
         ensures answer { result ≡ abandon_open_answer self.old.book day }
         ensures state { self.new.book ≡ abandon_open_book self.old.book day }

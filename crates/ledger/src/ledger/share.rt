@@ -24,7 +24,7 @@ struct RowTests {
     served: bool,
 }
 
-// Tests the rows. A loop, and not three `all`s, since a share-out makes one pass of it (a rule of the project).
+// Tests the rows: one pass tells three facts, where three `all`s are three passes, and a `fold` over the record is no plainer.
 fn test_rows(rows: &[Point], traders: u32, segments: u32) -> RowTests
     ensures share { result.may_share ≡ every (may_share traders) rows.now (length rows.now) }
     ensures free { result.free ≡ every is_free rows.now (length rows.now) }
