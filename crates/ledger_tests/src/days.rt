@@ -77,6 +77,27 @@ pub(crate) fn sharing_out<P: Profile, R: ShareRule>(
     ledger.share_out(day, sheet, profile, rule, uses, shares)
 }
 
+// Shares out a day of this ledger's, and ends it where that is refused.
+pub(crate) fn shared_out<P: Profile, R: ShareRule>(
+    ledger: &mut Ledger,
+    day: MeasuredDay,
+    sheet: &mut [Point],
+    profile: &P,
+    rule: &R,
+    uses: &mut [u64],
+    shares: &mut [u64],
+) -> Result<SharedOut, Fail>
+    requires { is_measured ledger.old.book.phase day.number ≡ true }
+{
+    match sharing_out(ledger, day, sheet, profile, rule, uses, shares) {
+        Ok(told) => Ok(told),
+        Err(Refused { why, given }) => {
+            end_measured(ledger, given);
+            Err(Fail::new(why.number()))
+        }
+    }
+}
+
 // Abandons an open day. A refusal hands it back.
 pub(crate) fn ending_open(ledger: &mut Ledger, day: OpenDay) -> Result<(), Refused<OpenDay>>
     ensures { IfErr result (λ e. (e.given ≡ day) × (ledger.new.book.phase ≡ ledger.old.book.phase)) }

@@ -2,10 +2,10 @@
 ghost use Rattle.std.specs.Prelude.{◌≡◌, true};
 ghost use Rattle.ledger.specs.Days.{is_open};
 
-use crate::days::{end_measured, end_open, measured, opened, sharing_out};
+use crate::days::{end_open, measured, opened, shared_out};
 use crate::seen::{Outcome, Seen};
 use crate::station::two_traders;
-use ledger::{Ledger, OpenDay, Point, Refused};
+use ledger::{Ledger, OpenDay, Point};
 use profiles::{EvenProfile, Weather};
 use shares::Running;
 use std::test::Fail;
@@ -81,7 +81,7 @@ fn no_day_past_the_calendar(rt: HostRuntime) {
 fn empty_day(ledger: &mut Ledger, profile: &EvenProfile) -> Result<(), Fail> {
     let day = measured(ledger, [0, 0], 0, 0)?;
     let mut none = [Point::UNUSED; 1];
-    match sharing_out(
+    shared_out(
         ledger,
         day,
         &mut none,
@@ -89,13 +89,8 @@ fn empty_day(ledger: &mut Ledger, profile: &EvenProfile) -> Result<(), Fail> {
         &Running,
         &mut [0; 1],
         &mut [0; 1],
-    ) {
-        Ok(_) => Ok(()),
-        Err(Refused { why, given }) => {
-            end_measured(ledger, given);
-            Err(Fail::new(why.number()))
-        }
-    }
+    )?;
+    Ok(())
 }
 
 #[test]

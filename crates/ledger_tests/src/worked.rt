@@ -1,8 +1,8 @@
 // Days worked out by hand, and what every account and sheet then holds.
-use crate::days::{end_measured, measured, sharing_out};
+use crate::days::{end_measured, measured, shared_out};
 use crate::seen::Seen;
 use crate::station::{GIVEN, ROW, SECOND, two_points};
-use ledger::{Ledger, Particulars, Point, Refused, SharedOut};
+use ledger::{Ledger, Particulars, Point, SharedOut};
 use profiles::EvenProfile;
 use shares::{LargestRemainder, Running, ShareRule};
 use std::test::Fail;
@@ -30,7 +30,7 @@ fn share<R: ShareRule>(
 ) -> Result<SharedOut, Fail> {
     let profile = EvenProfile::new(764_445)?;
     let day = measured(ledger, metered, 1_000_000, rate)?;
-    match sharing_out(
+    shared_out(
         ledger,
         day,
         sheet,
@@ -38,13 +38,7 @@ fn share<R: ShareRule>(
         rule,
         &mut work.uses,
         &mut work.shares,
-    ) {
-        Ok(told) => Ok(told),
-        Err(Refused { why, given }) => {
-            end_measured(ledger, given);
-            Err(Fail::new(why.number()))
-        }
-    }
+    )
 }
 
 // What the worked day tells: 1,000,000 litres of inflow, of which 20,000 are lost and 380,000 metered.

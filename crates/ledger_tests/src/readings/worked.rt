@@ -2,12 +2,12 @@
 ghost use Rattle.std.specs.Prelude.{◌≡◌, true};
 ghost use Rattle.ledger.specs.Days.{is_measured};
 
-use crate::days::{end_measured, measured, sharing_out};
+use crate::days::{measured, shared_out};
 use crate::readings::slips::{Call, ended, reading};
 use crate::readings::station::{SECOND, two_points};
 use crate::seen::Seen;
 use crate::station::ROW;
-use ledger::{Ledger, MeasuredDay, Point, Refused};
+use ledger::{Ledger, MeasuredDay, Point};
 use profiles::EvenProfile;
 use shares::Running;
 use std::test::Fail;
@@ -157,7 +157,7 @@ fn handed_over_within(
         Ok(slip) => ended(ledger, sheet, slip, Call::HandOver(1)),
         Err(why) => Err(why),
     };
-    match sharing_out(
+    shared_out(
         ledger,
         day,
         sheet,
@@ -165,13 +165,8 @@ fn handed_over_within(
         &Running,
         &mut [0; 2],
         &mut [0; 2],
-    ) {
-        Ok(_) => Ok(told?),
-        Err(Refused { why, given }) => {
-            end_measured(ledger, given);
-            Err(Fail::new(why.number()))
-        }
-    }
+    )?;
+    Ok(told?)
 }
 
 // A day of 980,000 litres was measured before the hand-over. The correction is the first trader's, and the day's share the second's.
