@@ -1,6 +1,6 @@
 // Admitting traders and points.
 use crate::seen::{Outcome, Seen, number_of};
-use crate::station::{GIVEN, ROW, SHEET, two_points, two_traders};
+use crate::station::{GIVEN, ROW, SECOND, SHEET, two_points, two_traders};
 use ledger::{Ledger, Particulars, Point};
 use std::test::Fail;
 
@@ -26,7 +26,7 @@ fn a_sixty_fifth_trader_has_no_place(rt: HostRuntime) -> Result<(), Fail> {
 #[test]
 fn admits_at_the_next_place(rt: HostRuntime) -> Result<(), Fail> {
     let mut sheet = [Point::UNUSED; 3];
-    let ledger = two_points(&mut sheet)?;
+    let ledger = two_points(&mut sheet, SECOND)?;
     assert!(rt; sheet == SHEET);
     assert!(rt; ledger.counts().points == 2);
     Ok(())
@@ -117,7 +117,7 @@ fn particulars_at_their_ends(rt: HostRuntime) -> Result<(), Fail> {
 #[test]
 fn a_third_trader_and_a_third_place(rt: HostRuntime) -> Result<(), Fail> {
     let mut sheet = [Point::UNUSED; 2];
-    let mut ledger = two_points(&mut sheet)?;
+    let mut ledger = two_points(&mut sheet, SECOND)?;
     let filled = sheet;
     assert!(rt; admission(&mut ledger, &mut sheet, GIVEN).refused(26));
     assert!(rt; admission(&mut ledger, &mut sheet, Particulars { trader: 2, ..GIVEN }).refused(3));
@@ -129,7 +129,7 @@ fn a_third_trader_and_a_third_place(rt: HostRuntime) -> Result<(), Fail> {
 #[test]
 fn the_first_ground_of_an_admission(rt: HostRuntime) -> Result<(), Fail> {
     let mut sheet = [Point::UNUSED; 2];
-    let mut ledger = two_points(&mut sheet)?;
+    let mut ledger = two_points(&mut sheet, SECOND)?;
     let nobody = Particulars {
         trader: 2,
         segment: 8,
@@ -153,7 +153,7 @@ fn the_first_ground_of_an_admission(rt: HostRuntime) -> Result<(), Fail> {
 
 #[test]
 fn sheets_of_a_wrong_length(rt: HostRuntime) -> Result<(), Fail> {
-    let mut ledger = two_points(&mut [Point::UNUSED; 2])?;
+    let mut ledger = two_points(&mut [Point::UNUSED; 2], SECOND)?;
     let mut short = [ROW; 1];
     assert!(rt; admission(&mut ledger, &mut short, GIVEN).refused(1) && short == [ROW; 1]);
     let mut long = [ROW; 4097];

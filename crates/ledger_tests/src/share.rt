@@ -40,7 +40,7 @@ fn tried<P: Profile, const N: usize, const U: usize, const S: usize>(
     shares: [u64; S],
     profile: &P,
 ) -> Result<Option<u8>, Fail> {
-    let mut ledger = two_points(&mut [Point::UNUSED; 3])?;
+    let mut ledger = two_points(&mut [Point::UNUSED; 3], SECOND)?;
     let mut rows = sheet;
     let mut weights = uses;
     let mut parts = shares;
@@ -173,8 +173,8 @@ fn a_place_not_used(rt: HostRuntime) -> Result<(), Fail> {
 
 // The number of the refusal where a ledger between days shares out another ledger's day. It has to leave all sheets.
 fn another_day(rt: &impl Abort, sheet: [Point; 3]) -> Result<Option<u8>, Fail> {
-    let mut ledger = two_points(&mut [Point::UNUSED; 3])?;
-    let mut other = two_points(&mut [Point::UNUSED; 3])?;
+    let mut ledger = two_points(&mut [Point::UNUSED; 3], SECOND)?;
+    let mut other = two_points(&mut [Point::UNUSED; 3], SECOND)?;
     let profile = even(764_445)?;
     let day = measured(&mut other, [0, 0], 1_000_000, 20_000)?;
     let before = Seen::of(&ledger);
@@ -235,7 +235,7 @@ fn a_segment_not_served(rt: HostRuntime) -> Result<(), Fail> {
 #[test]
 fn nothing_to_share_by(rt: HostRuntime) -> Result<(), Fail> {
     let mut sheet = [Point::UNUSED; 3];
-    let mut ledger = two_points(&mut sheet)?;
+    let mut ledger = two_points(&mut sheet, SECOND)?;
     let mut uses = [7; 3];
     let mut shares = [8; 3];
     let profile = even(0)?;

@@ -47,17 +47,10 @@ pub(crate) fn two_traders() -> Result<Ledger, Fail> {
     Ok(ledger)
 }
 
-// A ledger of two traders, and their points in a sheet.
-pub(crate) fn two_points(sheet: &mut [Point]) -> Result<Ledger, Fail> {
+// A ledger of two traders, and their points in a sheet, of which the second is to have this row.
+pub(crate) fn two_points(sheet: &mut [Point], second: Point) -> Result<Ledger, Fail> {
     let mut ledger = two_traders()?;
     ledger.admit_point(sheet, GIVEN)?;
-    ledger.admit_point(
-        sheet,
-        Particulars {
-            trader: 1,
-            scale_factor: 500_000,
-            ..GIVEN
-        },
-    )?;
+    ledger.admit_point(sheet, second.into())?;
     Ok(ledger)
 }

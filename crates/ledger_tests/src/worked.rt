@@ -78,7 +78,7 @@ const SHARED: [Point; 3] = [
 #[test]
 fn the_worked_day(rt: HostRuntime) -> Result<(), Fail> {
     let mut sheet = [Point::UNUSED; 3];
-    let mut ledger = two_points(&mut sheet)?;
+    let mut ledger = two_points(&mut sheet, SECOND)?;
     let mut work = WORK;
     let told = share(
         &mut ledger,
@@ -99,7 +99,7 @@ fn the_worked_day(rt: HostRuntime) -> Result<(), Fail> {
 #[test]
 fn the_worked_day_by_largest_remainder(rt: HostRuntime) -> Result<(), Fail> {
     let mut sheet = [Point::UNUSED; 3];
-    let mut ledger = two_points(&mut sheet)?;
+    let mut ledger = two_points(&mut sheet, SECOND)?;
     let mut work = WORK;
     let rule = LargestRemainder;
     let told = share(
@@ -118,7 +118,7 @@ fn the_worked_day_by_largest_remainder(rt: HostRuntime) -> Result<(), Fail> {
 #[test]
 fn accounts_outlast_an_abandoned_day(rt: HostRuntime) -> Result<(), Fail> {
     let mut sheet = [Point::UNUSED; 3];
-    let mut ledger = two_points(&mut sheet)?;
+    let mut ledger = two_points(&mut sheet, SECOND)?;
     let mut work = WORK;
     share(
         &mut ledger,
@@ -158,7 +158,7 @@ const JOINED: [Point; 3] = [
 #[test]
 fn a_point_joins_between_days(rt: HostRuntime) -> Result<(), Fail> {
     let mut sheet = [Point::UNUSED; 3];
-    let mut ledger = two_points(&mut sheet)?;
+    let mut ledger = two_points(&mut sheet, SECOND)?;
     let mut work = WORK;
     share(
         &mut ledger,

@@ -3,7 +3,7 @@
 ghost use Rattle.std.specs.Prelude.{◌≡◌};
 
 use crate::readings::slips::{Call, brought, ended, reading};
-use crate::readings::station::{SECOND, two_points};
+use crate::readings::station::{TWIN, twins};
 use crate::seen::{Outcome, Seen, number_of};
 use crate::station::ROW;
 use ledger::{Ledger, Point};
@@ -13,8 +13,8 @@ use std::test::Fail;
 fn tried(ledger: &mut Ledger, sheet: &mut [Point; 2], call: Call) -> Result<Outcome, Fail>
     ensures { ledger.new.book.counts.points ≡ ledger.old.book.counts.points }
 {
-    let mut other = two_points()?;
-    let theirs = reading(&mut other, &mut [ROW, SECOND], 0, 77)?;
+    let mut other = twins()?;
+    let theirs = reading(&mut other, &mut [ROW, TWIN], 0, 77)?;
     Ok(brought(ledger, sheet, &other, theirs, call))
 }
 
@@ -28,8 +28,8 @@ const KEPT: Point = Point {
 // This ledger has made a reading, and its row's open slip has the number 2; the other's has the number 1.
 #[test]
 fn another_number(rt: HostRuntime) -> Result<(), Fail> {
-    let mut ledger = two_points()?;
-    let mut sheet = [Point { slip: 2, ..KEPT }, SECOND];
+    let mut ledger = twins()?;
+    let mut sheet = [Point { slip: 2, ..KEPT }, TWIN];
     let slip = reading(&mut ledger, &mut sheet, 1, 15)?;
     ended(&mut ledger, &mut sheet, slip, Call::Withdraw)?;
     assert!(rt; tried(&mut ledger, &mut sheet, Call::Book)?.is(Some(21)));
@@ -42,15 +42,15 @@ fn another_number(rt: HostRuntime) -> Result<(), Fail> {
 // then finds none.
 #[test]
 fn the_same_number_and_point(rt: HostRuntime) -> Result<(), Fail> {
-    let mut ledger = two_points()?;
+    let mut ledger = twins()?;
     let before = Seen::of(&ledger);
-    let mut sheet = [ROW, SECOND];
+    let mut sheet = [ROW, TWIN];
     let own = reading(&mut ledger, &mut sheet, 0, 15)?;
     let theirs = tried(&mut ledger, &mut sheet, Call::Book);
     let late = ended(&mut ledger, &mut sheet, own, Call::Book);
     assert!(rt; theirs?.accepted() && number_of(late) == Some(21));
     let after = before.with_readings(1).with_booking([25_000, 0], -25_000);
-    assert!(rt; Seen::of(&ledger) == after && sheet == [Point { reading: 15, ..ROW }, SECOND]);
+    assert!(rt; Seen::of(&ledger) == after && sheet == [Point { reading: 15, ..ROW }, TWIN]);
     Ok(())
 }
 
@@ -58,10 +58,10 @@ fn the_same_number_and_point(rt: HostRuntime) -> Result<(), Fail> {
 // still be withdrawn.
 #[test]
 fn more_bookings_than_readings(rt: HostRuntime) -> Result<(), Fail> {
-    let mut ledger = two_points()?;
-    let mut sheet = [KEPT, SECOND];
+    let mut ledger = twins()?;
+    let mut sheet = [KEPT, TWIN];
     assert!(rt; tried(&mut ledger, &mut sheet, Call::Book)?.is(Some(21)));
     assert!(rt; tried(&mut ledger, &mut sheet, Call::HandOver(1))?.is(Some(21)));
-    assert!(rt; tried(&mut ledger, &mut sheet, Call::Withdraw)?.is(None) && sheet == [ROW, SECOND]);
+    assert!(rt; tried(&mut ledger, &mut sheet, Call::Withdraw)?.is(None) && sheet == [ROW, TWIN]);
     Ok(())
 }

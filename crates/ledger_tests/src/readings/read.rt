@@ -1,6 +1,6 @@
 // Reading points: what is refused, and what a withdrawn reading leaves.
 use crate::readings::slips::{Call, end, ended, reading};
-use crate::readings::station::{SECOND, two_points};
+use crate::readings::station::{TWIN, twins};
 use crate::seen::{Outcome, Seen};
 use crate::station::ROW;
 use ledger::{Ledger, Point};
@@ -28,7 +28,7 @@ fn tried<const N: usize>(
 // Each ground, beside one that is told after it where there is one; the last is accepted.
 #[test]
 fn readings_refused(rt: HostRuntime) -> Result<(), Fail> {
-    let mut ledger = two_points()?;
+    let mut ledger = twins()?;
     let foreign = Point {
         digits: 9,
         slip: 1,
@@ -37,10 +37,10 @@ fn readings_refused(rt: HostRuntime) -> Result<(), Fail> {
     let open = Point { slip: 1, ..ROW };
     assert!(rt; tried(&mut ledger, [ROW; 1], 2, 15).is(Some(1)));
     assert!(rt; tried(&mut ledger, [ROW; 4097], 0, 15).is(Some(1)));
-    assert!(rt; tried(&mut ledger, [foreign, SECOND, foreign], 2, 15).is(Some(4)));
-    assert!(rt; tried(&mut ledger, [foreign, SECOND], 0, 1_000_000_000).is(Some(11)));
-    assert!(rt; tried(&mut ledger, [open, SECOND], 0, 100_000).is(Some(7)));
-    assert!(rt; tried(&mut ledger, [open, SECOND], 0, 99_999).is(Some(27)));
+    assert!(rt; tried(&mut ledger, [foreign, TWIN, foreign], 2, 15).is(Some(4)));
+    assert!(rt; tried(&mut ledger, [foreign, TWIN], 0, 1_000_000_000).is(Some(11)));
+    assert!(rt; tried(&mut ledger, [open, TWIN], 0, 100_000).is(Some(7)));
+    assert!(rt; tried(&mut ledger, [open, TWIN], 0, 99_999).is(Some(27)));
     assert!(rt; tried(&mut ledger, [ROW, foreign], 0, 99_999).is(None));
     Ok(())
 }
@@ -55,35 +55,33 @@ fn withdrawn(ledger: &mut Ledger, sheet: &mut [Point; 2]) -> Result<(), Fail> {
 // A million readings are made and withdrawn; then there is no more. An open slip is told first.
 #[test]
 fn no_reading_after_a_million(rt: HostRuntime) -> Result<(), Fail> {
-    let mut ledger = two_points()?;
+    let mut ledger = twins()?;
     let before = Seen::of(&ledger);
-    let mut sheet = [ROW, SECOND];
+    let mut sheet = [ROW, TWIN];
     for _ in 0..1_000_000u32 {
         withdrawn(&mut ledger, &mut sheet)?;
     }
-    assert!(rt; Seen::of(&ledger) == before.with_readings(1_000_000) && sheet == [ROW, SECOND]);
+    assert!(rt; Seen::of(&ledger) == before.with_readings(1_000_000) && sheet == [ROW, TWIN]);
     assert!(rt; tried(&mut ledger, sheet, 0, 15).is(Some(28)));
-    assert!(rt; tried(&mut ledger, [Point { slip: 1, ..ROW }, SECOND], 0, 15).is(Some(27)));
+    assert!(rt; tried(&mut ledger, [Point { slip: 1, ..ROW }, TWIN], 0, 15).is(Some(27)));
     Ok(())
 }
 
 // The row keeps the reading while the slip is open, and is as before once it is withdrawn. The number is not given again.
 #[test]
 fn a_reading_withdrawn(rt: HostRuntime) -> Result<(), Fail> {
-    let mut ledger = two_points()?;
+    let mut ledger = twins()?;
     let before = Seen::of(&ledger);
-    let mut sheet = [ROW, SECOND];
+    let mut sheet = [ROW, TWIN];
     let slip = reading(&mut ledger, &mut sheet, 1, 15)?;
     let kept = sheet;
     let first = slip.number();
     ended(&mut ledger, &mut sheet, slip, Call::Withdraw)?;
-    assert!(rt;
-        first == 1 && Seen::of(&ledger) == before.with_readings(1) && sheet == [ROW, SECOND]
-    );
+    assert!(rt; first == 1 && Seen::of(&ledger) == before.with_readings(1) && sheet == [ROW, TWIN]);
     let open = Point {
         slip: 1,
         kept_reading: 15,
-        ..SECOND
+        ..TWIN
     };
     assert!(rt; kept == [ROW, open]);
     let next = reading(&mut ledger, &mut sheet, 1, 16)?;

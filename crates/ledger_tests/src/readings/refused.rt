@@ -1,6 +1,6 @@
 // Bookings, hand-overs and withdrawals that are refused.
 use crate::readings::slips::{Call, brought, ended, reading};
-use crate::readings::station::{SECOND, three_points, two_points};
+use crate::readings::station::{TWIN, three_points, twins};
 use crate::seen::{Outcome, Seen, number_of};
 use crate::station::ROW;
 use ledger::Point;
@@ -8,8 +8,8 @@ use std::test::Fail;
 
 // How a call is answered with the slip of the first point's first reading and this sheet.
 fn tried<const N: usize>(call: Call, rows: [Point; N]) -> Result<Outcome, Fail> {
-    let mut ledger = two_points()?;
-    let slip = reading(&mut ledger, &mut [ROW, SECOND], 0, 15)?;
+    let mut ledger = twins()?;
+    let slip = reading(&mut ledger, &mut [ROW, TWIN], 0, 15)?;
     let before = Seen::of(&ledger);
     let mut sheet = rows;
     let number = number_of(ended(&mut ledger, &mut sheet, slip, call));
@@ -18,9 +18,9 @@ fn tried<const N: usize>(call: Call, rows: [Point; N]) -> Result<Outcome, Fail> 
 
 // The same where the slip is the third point's of another ledger, and this one has two.
 fn past_the_points<const N: usize>(call: Call, rows: [Point; N]) -> Result<Outcome, Fail> {
-    let mut ledger = two_points()?;
+    let mut ledger = twins()?;
     let mut other = three_points()?;
-    let slip = reading(&mut other, &mut [ROW, SECOND, ROW], 2, 15)?;
+    let slip = reading(&mut other, &mut [ROW, TWIN, ROW], 2, 15)?;
     let mut sheet = rows;
     Ok(brought(&mut ledger, &mut sheet, &other, slip, call))
 }
@@ -118,7 +118,7 @@ static CASES: [Case; 13] = [
 #[test]
 fn rows_and_slips(rt: HostRuntime) -> Result<(), Fail> {
     for case in &CASES {
-        assert!(rt; tried(case.call, [case.row, SECOND])?.is(case.number));
+        assert!(rt; tried(case.call, [case.row, TWIN])?.is(case.number));
     }
     Ok(())
 }
@@ -136,7 +136,7 @@ fn sheets_of_a_wrong_length(rt: HostRuntime) -> Result<(), Fail> {
 // No such trader is told before no such point, and that before a row.
 #[test]
 fn no_such_trader_or_point(rt: HostRuntime) -> Result<(), Fail> {
-    assert!(rt; past_the_points(Call::HandOver(2), [OPEN, SECOND, OPEN])?.is(Some(3)));
+    assert!(rt; past_the_points(Call::HandOver(2), [OPEN, TWIN, OPEN])?.is(Some(3)));
     assert!(rt; past_the_points(Call::HandOver(1), [FOREIGN; 3])?.is(Some(4)));
     assert!(rt; past_the_points(Call::Book, [FOREIGN; 3])?.is(Some(4)));
     assert!(rt; past_the_points(Call::Withdraw, [ANOTHER; 3])?.is(Some(4)));

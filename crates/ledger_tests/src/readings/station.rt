@@ -1,23 +1,19 @@
 // Stations of points that use the same.
-use crate::station::{GIVEN, ROW, two_traders};
-use ledger::{Ledger, Particulars, Point};
+use crate::station::{GIVEN, ROW, two_points};
+use ledger::{Ledger, Point};
 use std::test::Fail;
 
-// The row of the second trader's point.
-pub(crate) const SECOND: Point = Point { trader: 1, ..ROW };
+// The second trader's point, which uses as much as the first's.
+pub(crate) const TWIN: Point = Point { trader: 1, ..ROW };
 
-// A ledger of two traders and their points.
-pub(crate) fn two_points() -> Result<Ledger, Fail> {
-    let mut ledger = two_traders()?;
-    let mut sheet = [Point::UNUSED; 2];
-    ledger.admit_point(&mut sheet, GIVEN)?;
-    ledger.admit_point(&mut sheet, Particulars { trader: 1, ..GIVEN })?;
-    Ok(ledger)
+// A ledger of two traders and such points. Each test writes the sheet itself.
+pub(crate) fn twins() -> Result<Ledger, Fail> {
+    two_points(&mut [Point::UNUSED; 2], TWIN)
 }
 
 // A ledger of one point more.
 pub(crate) fn three_points() -> Result<Ledger, Fail> {
-    let mut ledger = two_points()?;
-    ledger.admit_point(&mut [ROW, SECOND, Point::UNUSED], GIVEN)?;
+    let mut ledger = twins()?;
+    ledger.admit_point(&mut [ROW, TWIN, Point::UNUSED], GIVEN)?;
     Ok(ledger)
 }

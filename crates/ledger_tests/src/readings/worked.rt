@@ -4,7 +4,7 @@ ghost use Rattle.ledger.specs.Days.{is_measured};
 
 use crate::days::{measured, shared_out};
 use crate::readings::slips::{Call, ended, reading};
-use crate::readings::station::{SECOND, two_points};
+use crate::readings::station::{TWIN, twins};
 use crate::seen::Seen;
 use crate::station::ROW;
 use ledger::{Ledger, MeasuredDay, Point};
@@ -112,9 +112,9 @@ static BOOKINGS: [Booking; 8] = [
 
 // Whether a booking gives what it has to: in the row, in the trader's account, and the other way in the distributor's.
 fn is_right(case: &Booking, call: Call, trader: u32) -> Result<bool, Fail> {
-    let mut ledger = two_points()?;
+    let mut ledger = twins()?;
     let before = Seen::of(&ledger);
-    let mut sheet = [case.row, SECOND];
+    let mut sheet = [case.row, TWIN];
     let slip = reading(&mut ledger, &mut sheet, 0, case.dial)?;
     let told = ended(&mut ledger, &mut sheet, slip, call)?;
     let booked = Point {
@@ -126,7 +126,7 @@ fn is_right(case: &Booking, call: Call, trader: u32) -> Result<bool, Fail> {
     let after = before
         .with_readings(1)
         .with_booking([case.correction, 0], case.distributor);
-    Ok(told == case.correction && sheet == [booked, SECOND] && Seen::of(&ledger) == after)
+    Ok(told == case.correction && sheet == [booked, TWIN] && Seen::of(&ledger) == after)
 }
 
 #[test]
@@ -172,13 +172,13 @@ fn handed_over_within(
 // A day of 980,000 litres was measured before the hand-over. The correction is the first trader's, and the day's share the second's.
 #[test]
 fn a_hand_over_within_a_day(rt: HostRuntime) -> Result<(), Fail> {
-    let mut ledger = two_points()?;
+    let mut ledger = twins()?;
     let profile = EvenProfile::new(764_445)?;
     let mut sheet = [
         ROLLED.row,
         Point {
             scale_factor: 327_034,
-            ..SECOND
+            ..TWIN
         },
     ];
     let day = measured(&mut ledger, [0, 0], 980_000, 0)?;
