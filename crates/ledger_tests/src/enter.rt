@@ -1,4 +1,6 @@
 // Entering metered litres into an open day.
+ghost use Rattle.std.specs.Prelude.{◌≡◌};
+
 use crate::days::{end_measured, end_open, entry, measured, opened};
 use crate::seen::Outcome;
 use crate::station::two_traders;
@@ -22,39 +24,36 @@ fn tried(ledger: &mut Ledger, case: &Entry) -> Result<Outcome, Fail> {
     Ok(outcome)
 }
 
-// Tries an entry by another ledger's day, while a day of this one's is open.
+// Tries an entry by another ledger's day, which that ledger then ends. The running day of this one's stays.
+fn by_theirs(
+    ledger: &mut Ledger,
+    other: &mut Ledger,
+    trader: u32,
+    litres: u64,
+) -> Result<Outcome, Fail>
+    ensures { ledger.new.book.phase ≡ ledger.old.book.phase }
+{
+    let theirs = opened(other)?;
+    let outcome = entry(ledger, &theirs, trader, litres);
+    end_open(other, theirs);
+    Ok(outcome)
+}
+
+// The same while a day of this ledger's is open.
 fn by_another(ledger: &mut Ledger, other: &mut Ledger, case: &Entry) -> Result<Outcome, Fail> {
     let own = opened(ledger)?;
     let _ = entry(ledger, &own, 0, case.metered);
-    match opened(other) {
-        Ok(theirs) => {
-            let outcome = entry(ledger, &theirs, case.trader, case.litres);
-            end_open(other, theirs);
-            end_open(ledger, own);
-            Ok(outcome)
-        }
-        Err(fail) => {
-            end_open(ledger, own);
-            Err(fail)
-        }
-    }
+    let outcome = by_theirs(ledger, other, case.trader, case.litres);
+    end_open(ledger, own);
+    outcome
 }
 
-// Tries an entry by another ledger's open day, while the day of this one's with the same number is measured.
+// The same while the day of this ledger's with the same number is measured.
 fn into_measured(ledger: &mut Ledger, other: &mut Ledger) -> Result<Outcome, Fail> {
     let own = measured(ledger, [0, 0], 1_000_000, 0)?;
-    match opened(other) {
-        Ok(theirs) => {
-            let outcome = entry(ledger, &theirs, 0, 1);
-            end_open(other, theirs);
-            end_measured(ledger, own);
-            Ok(outcome)
-        }
-        Err(fail) => {
-            end_measured(ledger, own);
-            Err(fail)
-        }
-    }
+    let outcome = by_theirs(ledger, other, 0, 1);
+    end_measured(ledger, own);
+    outcome
 }
 
 // The last two meet two grounds, and the first is told.
