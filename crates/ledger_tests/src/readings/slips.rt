@@ -56,10 +56,7 @@ pub(crate) fn ending(
     match call {
         Call::Book => ledger.book(sheet, slip),
         Call::HandOver(trader) => ledger.hand_over(sheet, slip, trader),
-        Call::Withdraw => match ledger.withdraw(sheet, slip) {
-            Ok(()) => Ok(0),
-            Err(refused) => Err(refused),
-        },
+        Call::Withdraw => ledger.withdraw(sheet, slip).map(|()| 0),
     }
 }
 

@@ -1,4 +1,5 @@
-use Rattle.std.proofs.Common.{sym, refl, ◌∙◌}
+use Rattle.std.proofs.Common.{refl, arith}
+use Rattle.std.proofs.lemmas.Grind.{common_steps}
 use Rattle.ledger.specs.declared.book.Book.{Book}
 use Rattle.ledger.specs.Readings.{book_fault, hand_fault, withdraw_fault}
 use Rattle.ledger.proofs.HandedBack.{same_token}
@@ -27,7 +28,8 @@ returns-in-HandOver c =
       day = stays (λ (b : Book). b.phase) f _ l _ e.state refl;
     }
 
-pub returns-in-Err : goal.returns-in-Err
-returns-in-Err c =
+pub returns-in-Withdraw : goal.returns-in-Withdraw
+returns-in-Withdraw c =
     let f = withdraw_fault c.args.ledger.now.book c.args.sheet.now c.args.slip in
-    record { slip = same_token f c.args.slip _ _ (sym c.in-Err.is ∙ c.withdraw.ensures.answer); points = refl; day = refl }
+    let back = same_token f c.args.slip _ _ c.withdraw.ensures.answer in
+    record { slip = grind (arith, common_steps); points = refl; day = refl }
