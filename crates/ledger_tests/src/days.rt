@@ -1,5 +1,6 @@
-// Days for the tests. Each helper says in its contract what it leaves of the running day: a token goes beside its ledger, and no type can hold
-// both and lend each. A day cannot be let go, so each function here ends the day that it is handed, or says what still stands.
+// Days for the tests. Each helper says in its contract what it leaves of the running day. A token goes beside its ledger: the tests that bring
+// a day to another ledger would have to take a struct of both apart again. A day cannot be let go, so each function here ends the day that it
+// is handed, or says what still stands.
 ghost use Rattle.std.specs.Prelude.{◌≡◌, true, IfOk, IfErr, MatchResult};
 ghost use Rattle.ledger.specs.Days.{is_open, is_measured};
 
@@ -10,7 +11,7 @@ use shares::ShareRule;
 use std::test::Fail;
 
 // Ends an open day that is this ledger's. Open and measured days are ended apart, here and below: a trait over the two would have these
-// same two bodies.
+// same two bodies, since the ledger has a call for each.
 pub(crate) fn end_open(ledger: &mut Ledger, day: OpenDay)
     requires { is_open ledger.old.book.phase day.number ≡ true }
 {
