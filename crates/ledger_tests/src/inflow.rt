@@ -1,8 +1,10 @@
 // Taking the inflow of an open day.
+ghost use Rattle.std.specs.Prelude.{◌≡◌, IfSome};
+
 use crate::days::{end_measured, end_open, entry, opened, taking};
 use crate::seen::{Outcome, Seen};
 use crate::station::two_traders;
-use ledger::{Ledger, Refused};
+use ledger::{Ledger, OpenDay, Refused};
 use std::test::Fail;
 
 // An inflow after so much was metered, and the number of its refusal, if any.
@@ -13,25 +15,35 @@ struct Inflow {
     number: Option<u8>,
 }
 
-// Takes an inflow.
-fn taken(ledger: &mut Ledger, case: &Inflow) -> Result<Outcome, Fail> {
-    let day = opened(ledger)?;
-    let _ = entry(ledger, &day, 0, case.metered);
+// Takes an inflow by a day, and ends the day once it is measured. A day that is refused is handed back.
+fn tried(ledger: &mut Ledger, day: OpenDay, litres: u64, rate: u32) -> (Outcome, Option<OpenDay>)
+    ensures { IfSome result.1 (λ back. (back ≡ day) × (ledger.new.book.phase ≡ ledger.old.book.phase)) }
+{
     let before = Seen::of(ledger);
-    match taking(ledger, day, case.litres, case.rate) {
+    match taking(ledger, day, litres, rate) {
         Ok(measured) => {
             end_measured(ledger, measured);
-            Ok(Outcome::new(None, before, ledger))
+            (Outcome::new(None, before, ledger), None)
         }
         Err(Refused { why, given }) => {
             let outcome = Outcome::new(Some(why.number()), before, ledger);
-            end_open(ledger, given);
-            Ok(outcome)
+            (outcome, Some(given))
         }
     }
 }
 
-// Takes an inflow by another ledger's day. Like `taken`, but a day that is refused is ended by the ledger that it is of.
+// Takes an inflow by a day of the ledger's.
+fn taken(ledger: &mut Ledger, case: &Inflow) -> Result<Outcome, Fail> {
+    let day = opened(ledger)?;
+    let _ = entry(ledger, &day, 0, case.metered);
+    let (outcome, back) = tried(ledger, day, case.litres, case.rate);
+    if let Some(day) = back {
+        end_open(ledger, day);
+    }
+    Ok(outcome)
+}
+
+// Takes an inflow by another ledger's day.
 fn by_another(
     ledger: &mut Ledger,
     other: &mut Ledger,
@@ -39,17 +51,11 @@ fn by_another(
     rate: u32,
 ) -> Result<Outcome, Fail> {
     let day = opened(other)?;
-    let before = Seen::of(ledger);
-    match taking(ledger, day, litres, rate) {
-        Ok(measured) => {
-            end_measured(ledger, measured);
-            Ok(Outcome::new(None, before, ledger))
-        }
-        Err(Refused { why, given }) => {
-            end_open(other, given);
-            Ok(Outcome::new(Some(why.number()), before, ledger))
-        }
+    let (outcome, back) = tried(ledger, day, litres, rate);
+    if let Some(day) = back {
+        end_open(other, day);
     }
+    Ok(outcome)
 }
 
 // The loss is rounded down: 2 per cent of 387,755 are 7,755, and of 49 nothing. The last meets two grounds, and the first is told.
