@@ -21,7 +21,7 @@ use refusals::Refusal;
 use shares::{LargestRemainder, Running, ShareRule};
 use std::alloc::{AllocError, Global};
 
-const PLACES: usize = 4096;
+const PLACES: usize = ledger::MAX_POINTS;
 
 // A journal's points are u32 and a ledger's usize, which goes by a cast: there is no `From` between them.
 pub struct Player {

@@ -6,21 +6,9 @@ ghost use Rattle.refusals.specs.declared.Refused.{Refused};
 ghost use Rattle.player.specs.Slips.{Made};
 
 use crate::station::Station;
-use ledger::{Ledger, Particulars, Point, Refused, Slip};
+use ledger::{Ledger, MAX_POINTS, Point, Refused, Slip};
 use refusals::Refusal;
 use std::alloc::{AllocError, Global};
-
-const MAX_PLACES: usize = 4096;
-
-// What the points of a ledger made up for a slip are admitted with.
-const GIVEN: Particulars = Particulars {
-    trader: 0,
-    segment: 0,
-    digits: 4,
-    litres_per_unit: 1,
-    reading: 0,
-    scale_factor: 0,
-};
 
 // A point has at most one open slip. They stand by their points in a Vec and not in a map, which may have no memory for a slip that
 // a refusal hands back, and a slip cannot be let go.
@@ -66,10 +54,8 @@ impl Slips {
         ensures room { OnSome result (vec_len self.new.open < vec_capacity self.new.open) }
         ensures made { IfSome result Made }
     {
-        match self.place(point) {
-            Ok(place) => Some(self.open.remove(place)),
-            Err(_) => None,
-        }
+        let place = self.place(point).ok()?;
+        Some(self.open.remove(place))
     }
 
     // Puts a slip in its place.
@@ -142,7 +128,7 @@ impl Slips {
         point: usize,
         trader: u32,
     ) -> Result<i64, Refusal> {
-        let none = if sheet.len() <= MAX_PLACES && trader >= station.ledger().counts().traders {
+        let none = if sheet.len() <= MAX_POINTS && trader >= station.ledger().counts().traders {
             Refusal::NoSuchTrader
         } else {
             no_slip(station.ledger(), sheet.len(), point)
@@ -205,9 +191,9 @@ fn full_ledger() -> Ledger
 {
     let mut ledger = Ledger::new(0);
     let _trader = ledger.admit_trader();
-    let mut sheet = [Point::UNUSED; MAX_PLACES];
-    for _ in 0..MAX_PLACES {
-        let _point = ledger.admit_point(&mut sheet, GIVEN);
+    let mut sheet = [Point::UNUSED; MAX_POINTS];
+    for _ in 0..MAX_POINTS {
+        let _point = ledger.admit_point(&mut sheet, Point::UNUSED.into());
     }
     ledger
 }
@@ -221,7 +207,7 @@ fn end_slip(ledger: &Ledger, slip: Slip)
         slip: slip.number(),
         ..Point::UNUSED
     };
-    match ledger.withdraw(&mut [row; MAX_PLACES], slip) {
+    match ledger.withdraw(&mut [row; MAX_POINTS], slip) {
         Ok(()) => {}
         Err(_) => unreachable(),
     }
@@ -229,7 +215,7 @@ fn end_slip(ledger: &Ledger, slip: Slip)
 
 // Why a call that needs an open slip of a point is refused where it has none.
 fn no_slip(ledger: &Ledger, places: usize, point: usize) -> Refusal {
-    if places > MAX_PLACES {
+    if places > MAX_POINTS {
         Refusal::PointSheetLength
     } else if point >= ledger.counts().points {
         Refusal::NoSuchPoint

@@ -7,7 +7,10 @@ ghost use Rattle.player.specs.Running.{tied, open_day, opened, measured, entry_t
 ghost use Rattle.ledger.specs.Sharing.{share_answer, share_book, share_sheet, share_shares};
 
 use crate::sheets::Sheets;
-use ledger::{Ledger, MeasuredDay, OpenDay, Particulars, Point, Refused, SharedOut, Slip};
+use ledger::{
+    Ledger, MAX_LITRES, MAX_POINTS, MAX_RATE, MeasuredDay, OpenDay, Particulars, Point, Refused,
+    SharedOut, Slip,
+};
 use profiles::{Profile, Weather};
 use refusals::Refusal;
 use shares::ShareRule;
@@ -25,13 +28,6 @@ pub struct Station {
     running: Running,
     ghost tied: { tied ledger.book.phase running ≡ true },
 }
-
-// The most litres that a call takes, and the largest loss rate, in millionths.
-const MAX_LITRES: u64 = 1_000_000_000;
-
-const MAX_RATE: u32 = 1_000_000;
-
-const MAX_PLACES: usize = 4096;
 
 impl Station {
     pub fn new(first_day: u32) -> Station
@@ -191,7 +187,7 @@ impl Station {
             },
             running => {
                 begin(&mut self.running, running);
-                Err(if sheets.points.len() > MAX_PLACES {
+                Err(if sheets.points.len() > MAX_POINTS {
                     Refusal::PointSheetLength
                 } else {
                     Refusal::NotRunning
