@@ -42,10 +42,6 @@ pub after_none : (r : Result (List ℕ) Fault) → after [] r ≡ r
 after_none (Ok ms) = refl
 after_none (Err e) = refl
 
-pub error_is : {X : Type 0} (q : Result X Fault) (e : Fault) → IsErrAnd q (λ y. y ≡ e) → q ≡ Err e
-error_is (Ok x) e by = absurd by
-error_is (Err y) e by = ap (λ (x : Fault). Err x) by
-
 pub numbers_is : (k : Kind) (limits : List ℕ) (words : List (List ℕ)) → length words ≡ length limits → each_of limits words ≡ numbers_of k limits words
 numbers_is k limits words h = sym (ap (λ (b : Bool). cond b (each_of limits words) (Err (Form k))) (eq-eqb (length words) (length limits) h))
 

@@ -19,8 +19,9 @@ pub fn cut_line(text: &[u8]) -> (&[u8], &[u8])
     cut_at(text, b'\n')
 }
 
-// The lines of a text, each without its line feed. Not by the library's `split_inclusive`: it keeps the line feed, and
-// contracts name a line by the definitions of `cut_line`.
+// The lines of a text, each without its line feed. Not by the library's `split_inclusive`, which keeps the line feed, nor by `lines` of
+// `bstr`, which drops a carriage return before it too, so that a line shown after an error would be another; and contracts name a line
+// by the definitions of `cut_line`.
 #[derive(Drop)]
 pub struct Lines<'a> {
     rest: &'a [u8],

@@ -1,11 +1,12 @@
-use Rattle.std.proofs.Common.{◌≡◌, ◌<◌, length, take, replicate, sym, refl, ◌∙◌, arith, length-set, lit<}
-use Rattle.std.proofs.lemmas.List.{get_or-replicate, length-replicate}
+use Rattle.std.proofs.Common.{◌≡◌, ◌<◌, length, take, replicate, Err, sym, refl, ap, ◌∙◌, arith, length-set, lit<}
+use Rattle.std.proofs.lemmas.List.{get_or-replicate, length-map, length-replicate}
+use Rattle.std.proofs.lemmas.Result.{err_from_is_err_and}
 use Rattle.journal.specs.Words.{texts_of}
 use Rattle.journal.specs.Numbers.{number_of}
 use Rattle.journal.specs.Calls.{max32}
-use Rattle.journal.proofs.Eachs.{each_more, each_fault, error_is, numbers_is}
+use Rattle.journal.proofs.Eachs.{each_more, each_fault, numbers_is}
 use Rattle.journal.proofs.Helds.{held}
-use Rattle.journal.proofs.Texts.{text_at, texts_at, length_texts}
+use Rattle.journal.proofs.Texts.{text_at, texts_at}
 use Rattle.journal.proofs.call.numbers.Goals as goal
 
 pub loop-i-preserved : goal.loop-i-preserved
@@ -14,7 +15,7 @@ loop-i-preserved g c =
     let i = c.loop-i.i in
     let limits = replicate g.row.N max32 in
     let ll : length limits ≡ g.row.N = length-replicate g.row.N max32 in
-    let lw = length_texts ws in
+    let lw = length-map ws (λ w. w.now) in
     let hl : i < length limits = omega arith in
     let hw : i < length (texts_of ws) = omega arith in
     let hf : i < length c.loop-i.found = omega (arith, c.loop-i.invariant.0) in
@@ -29,11 +30,12 @@ returns-in_err-found g c =
     let i = c.loop-i.i in
     let limits = replicate g.row.N max32 in
     let ll : length limits ≡ g.row.N = length-replicate g.row.N max32 in
-    let lw = length_texts ws in
+    let lw = length-map ws (λ w. w.now) in
     let hl : i < length limits = omega arith in
     let hw : i < length (texts_of ws) = omega arith in
     let same : length (texts_of ws) ≡ length limits = omega arith in
     let n = held 32 max32 (text_at ws i) _ refl (lit< tt) c.in_err-found.ensures in
-    error_is c.from_residual.result c.in_err-found.field-0.0 c.from_residual.ensures.1
+    let broke = err_from_is_err_and c.from_residual.result c.from_residual.ensures.1 in
+    broke.1 ∙ ap Err broke.2
     ∙ sym (c.loop-i.invariant.1 ∙ each_fault limits (texts_of ws) c.loop-i.found i 0 hl hw (take i c.loop-i.found) c.in_err-found.field-0.0 (n ∙ (λ j. number_of (sym (get_or-replicate g.row.N i max32 0 (omega arith)) j) (sym (texts_at ws i) j))))
     ∙ numbers_is c.args.kind limits (texts_of ws) same

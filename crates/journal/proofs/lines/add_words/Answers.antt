@@ -1,18 +1,19 @@
 use Rattle.std.proofs.Common.{◌≡◌, ℕ, ◌+◌, ◌<◌, List, length, drop, vec_items, refl, sym, ap, ◌∙◌, arith, lit<, rules}
+use Rattle.std.proofs.lemmas.List.{length-map}
 use Rattle.journal.specs.declared.lines.SheetFault.TheVariants.{Malformed}
 use Rattle.journal.specs.Words.{texts_of}
 use Rattle.journal.specs.Numbers.{number_of, all_of, after}
 use Rattle.journal.specs.Calls.{max32}
 use Rattle.journal.proofs.Eachs.{all_more, all_fault, taken_err}
 use Rattle.journal.proofs.Helds.{held, mapped_err, mapped_ok}
-use Rattle.journal.proofs.Texts.{text_at, length_texts, texts_at}
+use Rattle.journal.proofs.Texts.{text_at, texts_at}
 use Rattle.journal.proofs.lines.add_words.Goals as goal
 
 pub returns-in_err-n : goal.returns-in_err-n
 returns-in_err-n c =
     let ws = c.args.words.now in
     let i = c.loop-word.word-index in
-    let lw = length_texts ws in
+    let lw = length-map ws (λ w. w.now) in
     let h : i < length (texts_of ws) = omega arith in
     let read = held 32 max32 (text_at ws i) c.read.result refl (lit< tt) c.read.ensures in
     let m = mapped_err _ c.read.result c.map_err.result c.in_err-n.field-0.0 c.map_err.ensures.cases c.in_err-n.was in
@@ -24,7 +25,7 @@ pub loop-word-preserved : goal.loop-word-preserved
 loop-word-preserved c =
     let ws = c.args.words.now in
     let i = c.loop-word.word-index in
-    let lw = length_texts ws in
+    let lw = length-map ws (λ w. w.now) in
     let h : i < length (texts_of ws) = omega arith in
     let read = held 32 max32 (text_at ws i) c.read.result refl (lit< tt) c.read.ensures in
     let n = mapped_ok _ c.read.result c.map_err.result c.in_ok-n.n c.map_err.ensures.cases c.in_ok-n.was in
