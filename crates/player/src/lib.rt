@@ -2,6 +2,7 @@
 #![tactic(auto)]
 
 mod closing;
+pub mod desk;
 mod named;
 pub mod player;
 mod recipe;

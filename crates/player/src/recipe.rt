@@ -1,6 +1,5 @@
 // How a named profile is made: a table or an even profile, and up to two season layers over it.
-use crate::sheets::Sheets;
-use crate::station::Station;
+use crate::desk::Desk;
 use ledger::SharedOut;
 use profiles::{EvenProfile, Profile, SeasonLayer, TableProfile};
 use refusals::Refusal;
@@ -92,33 +91,27 @@ impl Recipe {
     // Shares the measured day out by this profile.
     pub(crate) fn share<R: ShareRule>(
         &self,
-        station: &mut Station,
+        desk: &mut Desk,
         rule: &R,
-        sheets: &mut Sheets,
     ) -> Result<SharedOut, Refusal> {
         match &self.base {
-            Base::Table(numbers) => {
-                self.share_over(table(numbers.as_slice())?, station, rule, sheets)
-            }
-            Base::Even(factor) => {
-                self.share_over(EvenProfile::new(*factor)?, station, rule, sheets)
-            }
+            Base::Table(numbers) => { self.share_over(table(numbers.as_slice())?, desk, rule) }
+            Base::Even(factor) => { self.share_over(EvenProfile::new(*factor)?, desk, rule) }
         }
     }
 
     fn share_over<P: Profile + Drop, R: ShareRule>(
         &self,
         base: P,
-        station: &mut Station,
+        desk: &mut Desk,
         rule: &R,
-        sheets: &mut Sheets,
     ) -> Result<SharedOut, Refusal> {
         match self.layers.as_slice() {
-            [] => station.share(&base, rule, sheets),
-            [layer] => station.share(&layer.over(base)?, rule, sheets),
+            [] => desk.share(&base, rule),
+            [layer] => desk.share(&layer.over(base)?, rule),
             [lower, upper, ..] => {
                 let lower = lower.over(base)?;
-                station.share(&upper.over(lower)?, rule, sheets)
+                desk.share(&upper.over(lower)?, rule)
             }
         }
     }

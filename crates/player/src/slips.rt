@@ -1,11 +1,8 @@
 // The slips of a journal's readings that are still open, so that a journal names them by their points.
-ghost use Rattle.std.specs.Prelude.{◌≡◌, ◌<◌, All, Err, IfErr, IfSome, vec_len, vec_capacity, OnSome};
+ghost use Rattle.std.specs.Prelude.{◌≡◌, ◌<◌, All, IfErr, IfSome, vec_len, vec_capacity, OnOk, OnSome};
 ghost use Rattle.std.specs.List.Sorted.{IsSearchInRange};
-ghost use Rattle.ledger.specs.declared.slip.Slip.{Slip};
-ghost use Rattle.refusals.specs.declared.Refused.{Refused};
 ghost use Rattle.player.specs.Slips.{Made};
 
-use crate::station::Station;
 use ledger::{Ledger, MAX_POINTS, Point, Refused, Slip};
 use refusals::Refusal;
 use std::alloc::{AllocError, Global};
@@ -50,7 +47,7 @@ impl Slips {
     }
 
     // Takes the point's slip out; a place is then free for it.
-    fn take(&mut self, point: usize) -> Option<Slip>
+    pub(crate) fn take(&mut self, point: usize) -> Option<Slip>
         ensures room { OnSome result (vec_len self.new.open < vec_capacity self.new.open) }
         ensures made { IfSome result Made }
     {
@@ -58,8 +55,15 @@ impl Slips {
         Some(self.open.remove(place))
     }
 
+    // Makes room for one slip more.
+    pub(crate) fn reserve(&mut self) -> Result<(), AllocError>
+        ensures { OnOk result (vec_len self.new.open < vec_capacity self.new.open) }
+    {
+        self.open.reserve(1)
+    }
+
     // Puts a slip in its place.
-    fn put(&mut self, slip: Slip)
+    pub(crate) fn put(&mut self, slip: Slip)
         requires room { vec_len self.old.open < vec_capacity self.old.open }
         requires made { Made slip }
     {
@@ -70,85 +74,18 @@ impl Slips {
         }
     }
 
-    // Makes a call with the point's slip, which stays open where the call is refused.
-    fn with_slip<T, F: FnOnce(Slip) -> Result<T, Refused<Slip>> + Drop>(
-        &mut self,
-        point: usize,
-        none: Refusal,
-        call: F,
-    ) -> Result<T, Refusal>
-        requires called { F.IsAlwaysCallable call }
-        requires back { (s : Slip) (e : Refused Slip) → F.post call s (Err e) → e.given ≡ s }
+    // What a call with a slip was told. Where it was refused the slip stays open.
+    pub(crate) fn keep<T>(&mut self, told: Result<T, Refused<Slip>>) -> Result<T, Refusal>
+        requires room { vec_len self.old.open < vec_capacity self.old.open }
+        requires made { IfErr told (λ refused. Made refused.given) }
     {
-        let slip = self.take(point).ok_or(none)?;
-        match call(slip) {
+        match told {
             Ok(told) => Ok(told),
             Err(Refused { why, given }) => {
                 self.put(given);
                 Err(why)
             }
         }
-    }
-
-    // Reads a point: the number of its slip. What the ledger answers is told, a refusal too; only a lack of memory ends the playing.
-    pub(crate) fn read(
-        &mut self,
-        station: &mut Station,
-        sheet: &mut [Point],
-        point: usize,
-        reading: u32,
-    ) -> Result<Result<u32, Refusal>, AllocError> {
-        self.open.reserve(1)?;
-        match station.read(sheet, point, reading) {
-            Ok(slip) => {
-                let number = slip.number();
-                self.put(slip);
-                Ok(Ok(number))
-            }
-            Err(why) => Ok(Err(why)),
-        }
-    }
-
-    // Books the point's open slip: the correction.
-    pub(crate) fn book(
-        &mut self,
-        station: &mut Station,
-        sheet: &mut [Point],
-        point: usize,
-    ) -> Result<i64, Refusal> {
-        let none = no_slip(station.ledger(), sheet.len(), point);
-        self.with_slip(point, none, |slip| station.book(sheet, slip))
-    }
-
-    // Hands the point of an open slip over: the correction.
-    pub(crate) fn hand_over(
-        &mut self,
-        station: &mut Station,
-        sheet: &mut [Point],
-        point: usize,
-        trader: u32,
-    ) -> Result<i64, Refusal> {
-        let none = if sheet.len() <= MAX_POINTS && trader >= station.ledger().counts().traders {
-            Refusal::NoSuchTrader
-        } else {
-            no_slip(station.ledger(), sheet.len(), point)
-        };
-        self.with_slip(point, none, |slip| station.hand_over(sheet, slip, trader))
-    }
-
-    // Withdraws the point's open slip: its number.
-    pub(crate) fn withdraw(
-        &mut self,
-        ledger: &Ledger,
-        sheet: &mut [Point],
-        point: usize,
-    ) -> Result<u32, Refusal> {
-        let none = no_slip(ledger, sheet.len(), point);
-        self.with_slip(point, none, |slip| {
-            let number = slip.number();
-            ledger.withdraw(sheet, slip)?;
-            Ok(number)
-        })
     }
 
     // Withdraws every slip that is still open. The ledger refuses none of its own; a slip that it did refuse comes back, since none can be let go.
@@ -210,16 +147,5 @@ fn end_slip(ledger: &Ledger, slip: Slip)
     match ledger.withdraw(&mut [row; MAX_POINTS], slip) {
         Ok(()) => {}
         Err(_) => unreachable(),
-    }
-}
-
-// Why a call that needs an open slip of a point is refused where it has none.
-fn no_slip(ledger: &Ledger, places: usize, point: usize) -> Refusal {
-    if places > MAX_POINTS {
-        Refusal::PointSheetLength
-    } else if point >= ledger.counts().points {
-        Refusal::NoSuchPoint
-    } else {
-        Refusal::NotOpenSlip
     }
 }
