@@ -5,17 +5,13 @@ mod halt;
 mod help;
 mod session;
 
-use halt::{Halt, Stop};
+use halt::Stop;
 use help::{HELP, MAKE_ONE};
 use player::slips::Unended;
-use session::{Stopped, play};
-use std::alloc::Global;
+use session::play;
 use std::io::{ErrorKind, Read, Write};
 use std::process::{ExitCode, Termination};
 use std::{env, fs};
-
-// How much of a malformed line is shown.
-const LONGEST: usize = 200;
 
 // What the command line asks for.
 #[derive(Drop)]
@@ -53,36 +49,6 @@ fn read_args(rt: &HostRuntime) -> anyhow::Result<Asked> {
     Ok(asked)
 }
 
-// A line as it can be shown: not too long, and with a mark in place of what is no text.
-fn shown(heap: Global, line: &[u8]) -> anyhow::Result<Vec<u8>> {
-    let wide = std::str::from_utf8(line).is_ok() && line.len() <= LONGEST;
-    let mut text = Vec::from_slice(heap, b"    ")?;
-    text.extend(
-        line.iter().take(LONGEST).map(|b| match *b {
-            32..=126 => *b,
-            128.. if wide => *b,
-            _ => b'?',
-        }),
-    )?;
-    text.push(b'\n')?;
-    Ok(text)
-}
-
-// Tells where the journal stopped: the file, the line, the line itself and the reason.
-fn complain(rt: &HostRuntime, path: Option<&str>, stopped: Stopped<'_>) -> anyhow::Result<()> {
-    let file = path.unwrap_or("standard input");
-    let Stopped { line, text, why } = stopped;
-    match why {
-        Halt::Empty => eprintln!(rt; "station: {file}: {why}")?,
-        _ => {
-            let text = shown(rt.alloc(), text)?;
-            eprintln!(rt; "station: {file}:{line}: {why}")?;
-            rt.stderr().write_all(text.as_slice())?;
-        }
-    }
-    Ok(())
-}
-
 // The journal's bytes, or `None` once it was told why there are none.
 fn read_journal(rt: &HostRuntime, path: Option<&str>) -> anyhow::Result<Option<Vec<u8>>> {
     let Some(path) = path else {
@@ -104,15 +70,9 @@ fn read_journal(rt: &HostRuntime, path: Option<&str>) -> anyhow::Result<Option<V
 
 // Plays the journal of a file, or of standard input.
 fn play_file(rt: &HostRuntime, path: Option<&str>, csv: bool) -> Result<ExitCode, Stop> {
-    let Some(text) = read_journal(rt, path)? else {
-        return Ok(ExitCode::FAILURE);
-    };
-    match play(rt, path, text.as_slice(), csv)? {
-        Ok(()) => Ok(ExitCode::SUCCESS),
-        Err(stopped) => {
-            complain(rt, path, stopped)?;
-            Ok(ExitCode::FAILURE)
-        }
+    match read_journal(rt, path)? {
+        Some(text) => play(rt, path, text.as_slice(), csv),
+        None => Ok(ExitCode::FAILURE),
     }
 }
 

@@ -1,31 +1,27 @@
 // The lines of a journal, one after the other.
-use crate::halt::Halt;
+use crate::halt::{Halt, Stop};
 use journal::call::{Call, parse};
 use journal::lines::{Lines, read_sheet};
 use journal::words::{split, uncommented};
 use player::player::Player;
 use player::report::Report;
-use player::slips::Unended;
 use player::trouble::Trouble;
+use std::alloc::Global;
 use std::fs;
 use std::io::{ErrorKind, Write};
 use std::iter::Zip;
 use std::ops::RangeFrom;
 use std::path::Path;
-
-// Where the playing stopped, and why.
-#[derive(Clone, Copy)]
-pub struct Stopped<'a> {
-    pub line: u64,
-    pub text: &'a [u8],
-    pub why: Halt,
-}
+use std::process::ExitCode;
 
 // Lines and their numbers.
 type Numbered<'a> = Zip<RangeFrom<u64>, Lines<'a>>;
 
 // Prints what is gathered once it is this long.
 const FULL: usize = 65_536;
+
+// How much of a malformed line is shown.
+const LONGEST: usize = 200;
 
 // A journal that is played, at the line that was begun last.
 #[derive(Drop)]
@@ -105,28 +101,66 @@ impl<'a> Session<'a> {
     }
 
     // Plays the lines behind the first call, and ends what they leave open.
-    fn play_on(
-        &mut self,
-        mut player: Player,
-        mut lines: Numbered<'a>,
-    ) -> Result<Result<(), Halt>, Unended> {
-        match lines.try_for_each(|(line, text)| self.step(&mut player, line, text)) {
-            Ok(()) => Ok(player.close(&mut self.report)?.map_err(Halt::Place)),
+    fn play_on(&mut self, mut player: Player, mut lines: Numbered<'a>) -> Result<ExitCode, Stop> {
+        let played = match lines.try_for_each(|(line, text)| self.step(&mut player, line, text)) {
+            Ok(()) => player.close(&mut self.report)?.map_err(Halt::Place),
             Err(halt) => {
                 player.end()?;
-                Ok(Err(halt))
+                Err(halt)
+            }
+        };
+        self.end(played)
+    }
+
+    // Prints what is left, and tells where the journal stopped, if it did.
+    fn end(&mut self, played: Result<(), Halt>) -> Result<ExitCode, Stop> {
+        match self.flush().and(played) {
+            Ok(()) => Ok(ExitCode::SUCCESS),
+            Err(why) => {
+                self.complain(why)?;
+                Ok(ExitCode::FAILURE)
             }
         }
     }
+
+    // Tells where the journal stopped: the file, the line, the line itself and the reason.
+    fn complain(&self, why: Halt) -> anyhow::Result<()> {
+        let (rt, line) = (self.rt, self.line);
+        let file = self.path.unwrap_or("standard input");
+        match why {
+            Halt::Empty => eprintln!(rt; "station: {file}: {why}")?,
+            _ => {
+                let text = shown(rt.alloc(), self.text)?;
+                eprintln!(rt; "station: {file}:{line}: {why}")?;
+                rt.stderr().write_all(text.as_slice())?;
+            }
+        }
+        Ok(())
+    }
 }
 
-// Plays a journal and prints what its calls were told. Slips that the ledger would not take back come back.
+// A line as it can be shown: not too long, and with a mark in place of what is no text.
+fn shown(heap: Global, line: &[u8]) -> anyhow::Result<Vec<u8>> {
+    let wide = std::str::from_utf8(line).is_ok() && line.len() <= LONGEST;
+    let mut text = Vec::from_slice(heap, b"    ")?;
+    text.extend(
+        line.iter().take(LONGEST).map(|b| match *b {
+            32..=126 => *b,
+            128.. if wide => *b,
+            _ => b'?',
+        }),
+    )?;
+    text.push(b'\n')?;
+    Ok(text)
+}
+
+// Plays a journal, prints what its calls were told, and tells where it stopped.
 pub(crate) fn play<'a>(
     rt: &'a HostRuntime,
     path: Option<&'a str>,
     text: &'a [u8],
     csv: bool,
-) -> Result<Result<(), Stopped<'a>>, Unended> {
+) -> Result<ExitCode, Stop> {
     let heap = rt.alloc();
     let mut session = Session {
         rt,
@@ -137,16 +171,8 @@ pub(crate) fn play<'a>(
         report: Report::new(heap, csv),
     };
     let mut lines = (1u64..).zip(Lines::of(text));
-    let played = match session.begin(&mut lines) {
-        Ok(player) => session.play_on(player, lines)?,
-        Err(halt) => Err(halt),
-    };
-    match session.flush().and(played) {
-        Ok(()) => Ok(Ok(())),
-        Err(why) => Ok(Err(Stopped {
-            line: session.line,
-            text: session.text,
-            why,
-        })),
+    match session.begin(&mut lines) {
+        Ok(player) => session.play_on(player, lines),
+        Err(halt) => session.end(Err(halt)),
     }
 }
