@@ -1,5 +1,5 @@
 // What a journal has set up, and the playing of its calls.
-ghost use Rattle.std.specs.Prelude.{◌≡◌, ◌<◌, false, IfOk, IfErr, vec_len};
+ghost use Rattle.std.specs.Prelude.{◌≡◌, false, IfOk, vec_len};
 ghost use Rattle.ledger.specs.Accounts.{new_book};
 ghost use Rattle.ledger.specs.Days.{admit_book, point_book, open_book, enter_book, inflow_book};
 ghost use Rattle.player.specs.Playing.{Plays, of_day, of_slip};
@@ -31,8 +31,10 @@ pub struct Player {
     profiles: Profiles,
     // their names
     traders: Vec<Vec<u8>>,
-    // of the day that was measured last, nought before the first, when none can be shared out; and of all days shared out
+    // the inflow of the day that was measured last, nought before the first. An `Option` is no plainer: the inflow is read only once a
+    // share-out was accepted, so that a `None` could not come
     measured: u64,
+    // that of all days shared out
     inflow: u64,
 }
 
@@ -68,8 +70,8 @@ impl Player {
         })
     }
 
-    // Plays a call. `numbers` are those of the call's file, where it has one. A call's weather and particulars are put together here:
-    // the journal's format stands by itself, and its calls know no ledger and no profile, so the new form is no plainer.
+    // Plays a call. `numbers` are those of the call's file, where it has one. The weather and a point's particulars are put together here
+    // from the call's fields: the journal's crate has neither type, since it knows neither the ledger nor the profiles.
     pub fn play(
         &mut self,
         line: u64,
@@ -203,7 +205,8 @@ impl Player {
     fn share(&mut self, name: &[u8], rule: Rule, report: &mut Report) -> Result<(), Trouble> {
         let points = self.desk.station.ledger().counts().points;
         let recipe = self.profiles.find(name)?;
-        // Two types, of which each call has one: a `dyn` would need a rule that is made and handed out.
+        // Two types, of which each call has one: the contract of a share-out names the rule's shares by its type. (Tried: a `&dyn ShareRule`
+        // cannot stand for that type.)
         let told = match rule {
             Rule::Running => recipe.share(&mut self.desk, &Running),
             Rule::Largest => recipe.share(&mut self.desk, &LargestRemainder),
