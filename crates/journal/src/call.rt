@@ -112,7 +112,8 @@ where
     Ok((read(first)?, read(second)?))
 }
 
-// The words behind `profile NAME table`, `profile NAME even` and `profile NAME season`.
+// The words behind `profile NAME table`, `profile NAME even` and `profile NAME season`. A struct of the name and these words is no plainer:
+// it would be made once, and taken apart for each shape.
 fn shaped<'a>(shape: Shape, name: &'a [u8], args: &[&'a [u8]]) -> Result<Call<'a>, Fault>
     ensures { heard result ≡ shaped_of shape name.now (texts_of args.now) }
 {
@@ -240,7 +241,8 @@ fn one(kind: Kind, args: &[&[u8]]) -> Result<u32, Fault>
     Ok(n)
 }
 
-// The call of a kind that the words behind its first say.
+// The call of a kind that the words behind its first say. A struct of the kind and these words is no plainer: six calls are read from the
+// words alone, and `point` and `shaped` name their own kind.
 fn formed<'a>(kind: Kind, args: &[&'a [u8]]) -> Result<Call<'a>, Fault>
     ensures { heard result ≡ form_of kind (texts_of args.now) }
 {

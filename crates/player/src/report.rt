@@ -8,6 +8,8 @@ use journal::number::put_number;
 use refusals::Refusal;
 use std::alloc::{AllocError, Global};
 
+// The program lends it to each call, then prints and clears it, also where there is no `Player` yet or any longer: so it is a parameter
+// of all that tells something, and no field of `Player`.
 #[derive(Drop)]
 pub struct Report {
     heap: Global,
