@@ -189,7 +189,7 @@ largest_near a ws i h in' = rw (largest_at a ws i in') (share_near a ws (parts a
 pub largest_idle : (a : ℕ) (ws : List ℕ) (i : ℕ) → fair a ws ≡ true → i < length ws → slice_index ws i ≡ 0 → slice_index (largest a ws) i ≡ 0
 largest_idle a ws i h in' z = largest_at a ws i in' ∙ share_idle a ws (parts a ws h).some i in' z
 
--- one turn of `part`, with g given so far and x the place's floor
+-- one turn of `Parted::new`, with g given so far and x the place's floor
 pub record Parted (a : ℕ) (ws : List ℕ) (i g x : ℕ) : Type 0 where
   pub fits : g + x < 2 ^ 64
   pub next : g + x ≡ sum (take (i + 1) (floors a ws))
@@ -222,7 +222,7 @@ gets_none : (a : ℕ) (ws : List ℕ) (i x : ℕ) → i < length ws → x ≡ a 
 unfolding largest_share
 gets_none a ws i x in' is h = rw (le-ltb (ahead (remainders a ws) i) (left a ws) h) (ap (λ x. x + 0) (is ∙ sym (floor_at a ws i in')))
 
--- a place's turn in `hand_out`, cut at t, with x its floor: it gets e litres more, and m are left to give at t
+-- a place's turn in `share_fairly`, cut at t, with x its floor: it gets e litres more, and m are left to give at t
 pub record Handed (a : ℕ) (ws : List ℕ) (i x t e m : ℕ) : Type 0 where
   pub share : x + e ≡ largest_share a ws i
   pub more : m ≡ left a ws - higher (remainders a ws) t - level (take (i + 1) (remainders a ws)) t

@@ -1,10 +1,9 @@
 // Where a number of the largest remainders is cut off.
 ghost use Rattle.std.specs.Prelude.{◌≡◌, ◌-◌, ◌<◌, ◌≤◌, IfNone, IfSome, length, count_by, nat_le, nat_lt};
 ghost use Rattle.shares.specs.Fair.{max_weights, max_total};
-ghost use Rattle.shares.specs.Rules.{remainders, left};
 ghost use Rattle.shares.specs.Counts.{IsCut};
 
-use crate::fair::Fair;
+use crate::largest::Parted;
 use std::cmp::Ordering;
 
 // How many turns guess where the cut lies before they halve.
@@ -37,20 +36,18 @@ pub(crate) struct Span<'a> {
 }
 
 impl<'a> Span<'a> {
-    // The cut of the `rest` litres that are left may lie anywhere among the remainders.
-    pub(crate) fn whole(job: &Fair, rems: &'a [u64], rest: u64) -> Span<'a>
-        requires rems { rems.now ≡ remainders job.now.quantity job.now.weights.now }
-        requires rest { rest ≡ left job.now.quantity job.now.weights.now }
-        ensures rems { result.rems.now ≡ rems.now }
-        ensures wanted { result.wanted ≡ rest }
+    // The cut of the litres that are left may lie anywhere among the remainders.
+    pub(crate) fn whole(parted: &'a Parted) -> Span<'a>
+        ensures rems { result.rems.now ≡ parted.now.sheet.now }
+        ensures wanted { result.wanted ≡ parted.now.rest }
     {
         Span {
-            rems,
-            wanted: rest,
+            rems: parted.sheet,
+            wanted: parted.rest,
             low: 0,
-            high: job.total,
+            high: parted.job.total,
             // A cast: there is no `u64::from` of a `usize`.
-            reach: rems.len() as u64,
+            reach: parted.sheet.len() as u64,
             past: 0,
         }
     }

@@ -26,45 +26,58 @@ impl FairRule for LargestRemainder {
     ghost idle = { largest_idle };
 
     fn share_fairly(&self, job: &Fair, out: &mut [u64]) {
-        let rest = part(job, out);
-        let cut = Span::whole(job, out, rest).find_cut();
-        hand_out(job, cut, out);
+        let cut = Parted::new(job, out).cut();
+        // A litre more for those above the cut, and for the first places at it.
+        let mut more = cut.more;
+        // By index, as in `Running`.
+        for (i, w) in job.weights.iter().enumerate() {
+            let r = out[i];
+            let extra = if r > cut.at {
+                1
+            } else if r == cut.at && more > 0 {
+                more -= 1;
+                1
+            } else {
+                0
+            };
+            out[i] = job.floor(*w) + extra;
+        }
     }
 }
 
-// Writes each remainder, and gives the litres that the floors leave.
-fn part(job: &Fair, out: &mut [u64]) -> u64
-    requires { length job.now.weights.now ≡ length out.old }
-    ensures rems { out.new ≡ remainders job.now.quantity job.now.weights.now }
-    ensures rest { result ≡ left job.now.quantity job.now.weights.now }
-{
-    let mut given = 0;
-    // By index, as in `Running`.
-    for (i, w) in job.weights.iter().enumerate() {
-        given += job.floor(*w);
-        out[i] = job.remainder(*w);
-    }
-    job.quantity - given
+// A sharing whose floors are taken off: the sheet holds the remainders, and `rest` litres are left.
+#[derive(Drop)]
+pub(crate) struct Parted<'s, 'w> {
+    pub(crate) job: Fair<'w>,
+    pub(crate) sheet: &'s mut [u64],
+    pub(crate) rest: u64,
+    ghost rems: { sheet.now ≡ remainders job.quantity job.weights.now },
+    ghost remain: { rest ≡ left job.quantity job.weights.now },
 }
 
-// Turns each remainder into its share: a litre more for those above the cut, and for the first places at it.
-fn hand_out(job: &Fair, cut: Cut, out: &mut [u64])
-    requires rems { out.old ≡ remainders job.now.quantity job.now.weights.now }
-    requires cut { IsCut (remainders job.now.quantity job.now.weights.now) (left job.now.quantity job.now.weights.now) cut.at cut.more }
-    ensures { out.new ≡ largest job.now.quantity job.now.weights.now }
-{
-    let mut more = cut.more;
-    // By index, as in `Running`.
-    for (i, w) in job.weights.iter().enumerate() {
-        let r = out[i];
-        let extra = if r > cut.at {
-            1
-        } else if r == cut.at && more > 0 {
-            more -= 1;
-            1
-        } else {
-            0
-        };
-        out[i] = job.floor(*w) + extra;
+impl<'s, 'w> Parted<'s, 'w> {
+    fn new(job: &Fair<'w>, sheet: &'s mut [u64]) -> Parted<'s, 'w>
+        requires { length job.now.weights.now ≡ length sheet.old }
+        ensures same_job { result.job ≡ job.now }
+        ensures same_sheet { result.sheet.ghost_name ≡ sheet.entry.ghost_name }
+    {
+        let mut given = 0;
+        // By index, as in `Running`.
+        for (i, w) in job.weights.iter().enumerate() {
+            given += job.floor(*w);
+            sheet[i] = job.remainder(*w);
+        }
+        Parted {
+            job: *job,
+            sheet,
+            rest: job.quantity - given,
+        }
+    }
+
+    // Between those that get a litre more and those that do not.
+    fn cut(&self) -> Cut
+        ensures { IsCut self.now.sheet.now self.now.rest result.at result.more }
+    {
+        Span::whole(self).find_cut()
     }
 }

@@ -5,6 +5,7 @@ use Rattle.shares.proofs.cut.Span.whole.Goals as goal
 
 pub invariant_of-result : goal.invariant_of-result
 invariant_of-result c =
-    let job = c.args.job.now in
-    let f = cuttable job.quantity job.weights.now job.total c.args.rest c.args.rems.now job.fairly job.whole c.requires.rems c.requires.rest in
+    let parted = c.args.parted.now in
+    let job = parted.job in
+    let f = cuttable job.quantity job.weights.now job.total parted.rest parted.sheet.now job.fairly job.whole parted.rems parted.remain in
     record { places = f.places; limit = f.limit; order = omega arith; reached = sym (reach_all _); passed = f.none; enough = f.most; few = omega arith }

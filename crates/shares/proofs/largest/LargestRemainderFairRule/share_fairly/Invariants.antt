@@ -1,6 +1,6 @@
 use Rattle.std.proofs.Common.{◌≡◌, length}
 use Rattle.shares.specs.LargestLaws.{Sofar}
-use Rattle.shares.proofs.largest.hand_out.Given as goal
+use Rattle.shares.proofs.largest.LargestRemainderFairRule.share_fairly.Given as goal
 
 abbrev pub invariant-loop-i : goal.invariant-loop-i
 invariant-loop-i l = record {
