@@ -52,7 +52,7 @@ impl<'a> Span<'a> {
         }
     }
 
-    // How many of the remainders are above `mark`.
+    // How many of the remainders are above `mark`: a sum of ones, since with `filter` and `count` the rule takes a tenth longer.
     fn above(&self, mark: u64) -> u64
         ensures { result ≡ count_by (λ x. nat_lt mark x) self.now.rems.now }
     {
