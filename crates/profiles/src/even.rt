@@ -2,7 +2,7 @@
 ghost use Rattle.std.specs.Prelude.{◌≡◌, ◌<◌, ◌≤◌, MatchResult};
 ghost use Rattle.refusals.specs.declared.Refusal.TheVariants.{ProfileSheet};
 ghost use Rattle.profiles.specs.Laws.{whole, both, told};
-ghost use Rattle.std.proofs.Common.{rules, arith};
+ghost use Rattle.std.proofs.Common.{rules};
 
 use crate::factors::{Factors, WHOLE};
 use crate::profile::Profile;
@@ -33,11 +33,11 @@ impl Profile for EvenProfile {
 
     ghost tells = { λ p segment t season. told 8 segment t season (both p.factor p.factor) };
 
-    ghost few = { first_of (Prim.search rules, Prim.grind (arith, Self.row.coded.inj)) };
+    ghost few = { Prim.search rules };
 
-    ghost small = { first_of (Prim.search rules, Prim.grind (arith, Self.row.coded.inj)) };
+    ghost small = { Prim.search rules };
 
-    ghost outside = { first_of (Prim.search rules, Prim.grind (arith, Self.row.coded.inj)) };
+    ghost outside = { Prim.search rules };
 
     fn tell(&self, segment: u32, weather: Weather) -> Factors {
         if segment >= Self::SEGMENTS || !weather.is_in_range() {

@@ -4,7 +4,7 @@ ghost use Rattle.refusals.specs.declared.Refusal.TheVariants.{Particulars};
 ghost use Rattle.profiles.specs.Laws.{whole, Same};
 ghost use Rattle.profiles.specs.Layers.{last_segment, layer_cells, max_season_number, layer_tells, Scales};
 ghost use Rattle.profiles.specs.Sheets.{verdict};
-ghost use Rattle.std.proofs.Common.{rules, arith};
+ghost use Rattle.std.proofs.Common.{rules};
 
 use crate::factors::{Factors, WHOLE};
 use crate::profile::Profile;
@@ -65,11 +65,11 @@ impl<P: Profile> Profile for SeasonLayer<P> {
 
     ghost tells = { λ l. layer_tells l.segment l.sheet.numbers (P.Profile.tells l.below) };
 
-    ghost few = { first_of (Prim.search rules, Prim.grind (arith, Self.row.coded.inj)) };
+    ghost few = { Prim.search rules };
 
-    ghost small = { first_of (Prim.search rules, Prim.grind (arith, Self.row.coded.inj)) };
+    ghost small = { Prim.search rules };
 
-    ghost outside = { first_of (Prim.search rules, Prim.grind (arith, Self.row.coded.inj)) };
+    ghost outside = { Prim.search rules };
 
     fn tell(&self, segment: u32, weather: Weather) -> Factors {
         let told = self.below.tell(segment, weather);
