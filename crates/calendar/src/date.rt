@@ -1,7 +1,7 @@
 // A date and its day number, each found from the other.
 ghost use Rattle.std.specs.Prelude.{◌≡◌, ◌+◌, ◌-◌, ◌<◌, ◌≤◌, true, IfOk, MatchResult};
 ghost use Rattle.refusals.specs.declared.Refusal.TheVariants.{NoSuchDay};
-ghost use Rattle.calendar.specs.Days.{is_leap, year_length, days_before_year, length_of_month, is_day, days_before, day_of, Dated};
+ghost use Rattle.calendar.specs.Days.{is_leap, year_length, days_before_year, is_day, days_before, day_of, Dated};
 
 use super::months::Month;
 use refusals::Refusal;
@@ -71,32 +71,16 @@ impl DayOfYear {
 }
 
 impl Date {
-    // The year, counted from 2000.
-    fn year_from_first(self) -> u32
-        requires { 2000 ≤ self.year }
-        ensures { result ≡ self.year - 2000 }
-    {
-        u32::from(self.year - FIRST_YEAR)
-    }
-
-    // The month that the date names.
-    fn month_of_year(self) -> Month
+    // The month that the date names. Its range is asked here alone, and of no type: `is_day` needs the month before it knows the day.
+    pub(super) fn month_of_year(self) -> Month
         requires { (2000 ≤ self.year) × ((1 ≤ self.month) × (self.month ≤ 12)) }
         ensures leap { result.leap ≡ is_leap (self.year - 2000) }
         ensures index { result.index ≡ self.month - 1 }
     {
         Month {
-            leap: is_leap(self.year_from_first()),
+            leap: is_leap(u32::from(self.year - FIRST_YEAR)),
             index: usize::from(self.month - 1),
         }
-    }
-
-    // How many days the date's month has.
-    pub(super) fn days_of_month(self) -> u8
-        requires { (2000 ≤ self.year) × ((1 ≤ self.month) × (self.month ≤ 12)) }
-        ensures { result ≡ length_of_month self }
-    {
-        self.month_of_year().length()
     }
 
     // Whether there is such a day.
@@ -105,7 +89,7 @@ impl Date {
     {
         (FIRST_YEAR..=LAST_YEAR).contains(&self.year)
             && (1..=12).contains(&self.month)
-            && (1..=self.days_of_month()).contains(&self.day)
+            && (1..=self.month_of_year().length()).contains(&self.day)
     }
 
     // The days from 1 January 2000 to this one.
@@ -113,7 +97,7 @@ impl Date {
         requires { is_day self ≡ true }
         ensures { result ≡ days_before self }
     {
-        days_before_year(self.year_from_first())
+        days_before_year(u32::from(self.year - FIRST_YEAR))
             + u32::from(self.month_of_year().days_before())
             + u32::from(self.day - 1)
     }

@@ -26,7 +26,11 @@ fn by_rule(litres: u64, date: Date) -> Result<u64, Refusal>
     if !date.is_day() {
         return Err(Refusal::NoSuchDay);
     }
-    Ok(part_of(litres, u64::from(date.day), u64::from(date.days_of_month())))
+    Ok(part_of(
+        litres,
+        u64::from(date.day),
+        u64::from(date.month_of_year().length()),
+    ))
 }
 
 // The litres of one day of a flat-rate customer, given the quantity of the month that the day lies in. The month's days sum

@@ -165,25 +165,27 @@ const YEAR_2004: [Month; 12] = [
     },
 ];
 
+fn on(year: u16, month: u8, day: u8) -> Date {
+    Date { year, month, day }
+}
+
 // The date has the number, and the number the date.
-fn check_day(rt: &impl Abort, year: u16, month: u8, day: u8, number: u32) {
-    let date = Date { year, month, day };
+fn check_day(rt: &impl Abort, date: Date, number: u32) {
     assert_eq!(rt; date.number(), Ok(number));
     assert_eq!(rt; Date::from_number(number), Ok(date));
 }
 
-fn check_no_day(rt: &impl Abort, year: u16, month: u8, day: u8) {
-    let date = Date { year, month, day };
+fn check_no_day(rt: &impl Abort, date: Date) {
     assert_eq!(rt; date.number(), Err(Refusal::NoSuchDay));
     assert_eq!(rt; flat_rate_day(0, date), Err(Refusal::NoSuchDay));
 }
 
 fn check_year(rt: &impl Abort, year: u16, months: &[Month]) {
     for row in months {
-        check_day(rt, year, row.month, 1, row.first_number);
-        check_day(rt, year, row.month, row.last, row.last_number);
-        check_no_day(rt, year, row.month, 0);
-        check_no_day(rt, year, row.month, row.last.saturating_add(1));
+        check_day(rt, on(year, row.month, 1), row.first_number);
+        check_day(rt, on(year, row.month, row.last), row.last_number);
+        check_no_day(rt, on(year, row.month, 0));
+        check_no_day(rt, on(year, row.month, row.last.saturating_add(1)));
     }
 }
 
@@ -199,25 +201,25 @@ fn months_of_a_leap_year(rt: HostRuntime) {
 
 #[test]
 fn ends_of_2000_and_2099(rt: HostRuntime) {
-    check_day(&rt, 2000, 1, 1, 0);
-    check_day(&rt, 2000, 2, 29, 59);
-    check_day(&rt, 2000, 12, 31, 365);
-    check_day(&rt, 2099, 1, 1, 36_160);
-    check_day(&rt, 2099, 12, 31, 36_524);
-    check_day(&rt, 2009, 10, 1, 3_561);
+    check_day(&rt, on(2000, 1, 1), 0);
+    check_day(&rt, on(2000, 2, 29), 59);
+    check_day(&rt, on(2000, 12, 31), 365);
+    check_day(&rt, on(2099, 1, 1), 36_160);
+    check_day(&rt, on(2099, 12, 31), 36_524);
+    check_day(&rt, on(2009, 10, 1), 3_561);
     assert_eq!(rt; Date::from_number(36_525), Err(Refusal::NoSuchDay));
     assert_eq!(rt; Date::from_number(u32::MAX), Err(Refusal::NoSuchDay));
-    check_no_day(&rt, 1999, 12, 31);
-    check_no_day(&rt, 2100, 1, 1);
-    check_no_day(&rt, 2009, 0, 1);
-    check_no_day(&rt, 2009, 13, 1);
-    check_no_day(&rt, 65_535, 255, 255);
+    check_no_day(&rt, on(1999, 12, 31));
+    check_no_day(&rt, on(2100, 1, 1));
+    check_no_day(&rt, on(2009, 0, 1));
+    check_no_day(&rt, on(2009, 13, 1));
+    check_no_day(&rt, on(65_535, 255, 255));
 }
 
-// The litres of a month's days together.
-fn month_sum(litres: u64, year: u16, month: u8) -> Result<u64, Refusal> {
+// The litres of the days of a date's month together.
+fn month_sum(litres: u64, first: Date) -> Result<u64, Refusal> {
     (1..=31)
-        .map(|day| Date { year, month, day })
+        .map(|day| Date { day, ..first })
         .filter(|date| date.is_day())
         .try_fold(0u64, |sum, date| {
             Ok(sum.saturating_add(flat_rate_day(litres, date)?))
@@ -226,16 +228,8 @@ fn month_sum(litres: u64, year: u16, month: u8) -> Result<u64, Refusal> {
 
 #[test]
 fn flat_rate_days(rt: HostRuntime) {
-    let first = Date {
-        year: 2009,
-        month: 2,
-        day: 1,
-    };
-    let second = Date {
-        year: 2009,
-        month: 2,
-        day: 2,
-    };
+    let first = on(2009, 2, 1);
+    let second = on(2009, 2, 2);
     assert_eq!(rt; flat_rate_day(29, first), Ok(1));
     assert_eq!(rt; flat_rate_day(55, first), Ok(1));
     assert_eq!(rt; flat_rate_day(55, second), Ok(2));
@@ -245,19 +239,15 @@ fn flat_rate_days(rt: HostRuntime) {
 
 #[test]
 fn flat_rate_months_sum(rt: HostRuntime) {
-    assert_eq!(rt; month_sum(1_000_000_000, 2001, 2), Ok(1_000_000_000));
-    assert_eq!(rt; month_sum(999_999_999, 2004, 2), Ok(999_999_999));
-    assert_eq!(rt; month_sum(30, 2009, 10), Ok(30));
-    assert_eq!(rt; month_sum(0, 2009, 10), Ok(0));
+    assert_eq!(rt; month_sum(1_000_000_000, on(2001, 2, 1)), Ok(1_000_000_000));
+    assert_eq!(rt; month_sum(999_999_999, on(2004, 2, 1)), Ok(999_999_999));
+    assert_eq!(rt; month_sum(30, on(2009, 10, 1)), Ok(30));
+    assert_eq!(rt; month_sum(0, on(2009, 10, 1)), Ok(0));
 }
 
 #[test]
 fn litres_are_refused_first(rt: HostRuntime) {
-    let no_day = Date {
-        year: 2009,
-        month: 2,
-        day: 29,
-    };
+    let no_day = on(2009, 2, 29);
     assert_eq!(rt; flat_rate_day(u64::MAX, no_day), Err(Refusal::Litres));
     assert_eq!(rt;
         flat_rate_day(1_000_000_000, no_day),
