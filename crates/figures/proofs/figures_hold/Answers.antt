@@ -1,5 +1,5 @@
 -- Each figure by working out both sides.
-use Rattle.std.proofs.Common.{refl, ◌∙◌}
+use Rattle.std.proofs.Common.{◌≡◌, refl, ◌∙◌, Ok, rules}
 use Rattle.shares.specs.Fair.{fair}
 use Rattle.shares.specs.Rules.{upto, running_share, running, floors, remainders, left, ahead, largest_share, largest}
 use Rattle.calendar.specs.Days.{days_before_month, days_before_year}
@@ -32,4 +32,4 @@ returns-clause-figures c =
 
 pub returns-clause-day : goal.returns-clause-day
 unfolding days_before_month days_before_year
-returns-clause-day c = c.number.ensures.value ∙ refl
+returns-clause-day c = let r : c.number.result ≡ Ok 3_561 = c.number.ensures.value ∙ refl in search (rules, r)
