@@ -2,7 +2,6 @@
 use crate::page::Page;
 use profiles::{Profile, SeasonLayer, TableProfile, Weather};
 use std::alloc::{AllocError, Global};
-use std::fmt;
 
 // The ends of the sheet and of what may be asked.
 const COLD: [i16; 4] = [-400, -81, -80, -79];
@@ -17,6 +16,34 @@ const LAYER_SEGMENT: u32 = 1;
 // 4 seasons of 381 tenths.
 const SEASON_NUMBERS: u32 = 1524;
 
+// A segment and a weather that a profile is asked for.
+#[derive(Clone, Copy)]
+struct Question {
+    segment: u32,
+    weather: Weather,
+}
+
+// Each segment in each of the seasons, at each of the temperatures.
+fn questions(
+    heap: Global,
+    segments: u32,
+    seasons: u8,
+    temperatures: &[i16],
+) -> Result<Vec<Question>, AllocError> {
+    (0..segments)
+        .flat_map(|segment| (0..seasons).map(move |season| (segment, season)))
+        .flat_map(|(segment, season)| {
+            temperatures.iter().map(move |temperature| Question {
+                segment,
+                weather: Weather {
+                    temperature: *temperature,
+                    season,
+                },
+            })
+        })
+        .collect(heap)
+}
+
 // Both ends, and each seventh tenth of the sheet between them.
 fn temperatures(heap: Global) -> Result<Vec<i16>, AllocError> {
     let mut all = Vec::from_slice(heap, &COLD)?;
@@ -25,29 +52,21 @@ fn temperatures(heap: Global) -> Result<Vec<i16>, AllocError> {
     Ok(all)
 }
 
-fn table_line(page: &mut Page, table: &TableProfile, segment: u32, t: i16) -> fmt::Result {
-    page.begin("table")?;
-    page.number(segment)?;
-    page.number(t)?;
-    let weather = Weather {
-        temperature: t,
-        season: 0,
-    };
-    page.number(table.tell(segment, weather).multiplier)?;
-    page.end()
-}
-
-fn segment_lines(page: &mut Page, table: &TableProfile, segment: u32) -> anyhow::Result<()> {
-    for t in temperatures(page.heap)?.iter() {
-        table_line(page, table, segment, *t)?;
-    }
-    Ok(())
-}
-
-// Both segments at each of the temperatures.
+// Both segments at each of the temperatures, in winter.
 pub(crate) fn table_lines(page: &mut Page, table: &TableProfile) -> anyhow::Result<()> {
-    for segment in 0..TableProfile::SEGMENTS {
-        segment_lines(page, table, segment)?;
+    let temperatures = temperatures(page.heap)?;
+    let asked = questions(
+        page.heap,
+        TableProfile::SEGMENTS,
+        1,
+        temperatures.as_slice(),
+    )?;
+    for Question { segment, weather } in asked.iter() {
+        page.begin("table")?;
+        page.number(*segment)?;
+        page.number(weather.temperature)?;
+        page.number(table.tell(*segment, *weather).multiplier)?;
+        page.end()?;
     }
     Ok(())
 }
@@ -59,55 +78,25 @@ fn season_numbers(heap: Global) -> Result<Vec<u32>, AllocError> {
         .collect(heap)
 }
 
-fn layer_line<P: Profile>(
-    page: &mut Page,
-    layer: &SeasonLayer<P>,
-    segment: u32,
-    weather: Weather,
-) -> fmt::Result {
-    let told = layer.tell(segment, weather);
-    page.begin("layer")?;
-    page.number(segment)?;
-    page.number(weather.season)?;
-    page.number(weather.temperature)?;
-    page.number(told.multiplier)?;
-    page.number(told.day)?;
-    page.end()
-}
-
 // A layer over the table, in each season: both segments, and one that the table does not serve.
 pub(crate) fn layer_lines(page: &mut Page, table: TableProfile) -> anyhow::Result<()> {
     let mut layer = SeasonLayer::new(table, LAYER_SEGMENT).map_err(|back| back.why)?;
     layer.fill(season_numbers(page.heap)?.as_slice())?;
-    for segment in 0..=TableProfile::SEGMENTS {
-        seasons_lines(page, &layer, segment)?;
-    }
-    Ok(())
-}
-
-fn seasons_lines<P: Profile>(
-    page: &mut Page,
-    layer: &SeasonLayer<P>,
-    segment: u32,
-) -> anyhow::Result<()> {
-    for season in 0..4u8 {
-        season_lines(page, layer, segment, season)?;
-    }
-    Ok(())
-}
-
-fn season_lines<P: Profile>(
-    page: &mut Page,
-    layer: &SeasonLayer<P>,
-    segment: u32,
-    season: u8,
-) -> anyhow::Result<()> {
-    for temperature in LAYER_TEMPERATURES {
-        let weather = Weather {
-            temperature,
-            season,
-        };
-        layer_line(page, layer, segment, weather)?;
+    let asked = questions(
+        page.heap,
+        TableProfile::SEGMENTS + 1,
+        4,
+        &LAYER_TEMPERATURES,
+    )?;
+    for Question { segment, weather } in asked.iter() {
+        let told = layer.tell(*segment, *weather);
+        page.begin("layer")?;
+        page.number(*segment)?;
+        page.number(weather.season)?;
+        page.number(weather.temperature)?;
+        page.number(told.multiplier)?;
+        page.number(told.day)?;
+        page.end()?;
     }
     Ok(())
 }
