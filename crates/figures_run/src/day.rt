@@ -1,5 +1,5 @@
 // A worked day on a new ledger.
-ghost use Rattle.std.specs.Prelude.{◌≡◌, true, IfOk};
+ghost use Rattle.std.specs.Prelude.{◌≡◌, true};
 ghost use Rattle.ledger.specs.Days.{is_open, is_measured};
 
 use crate::page::Page;
@@ -27,25 +27,6 @@ const DAY_FACTOR: u32 = 764_445;
 
 const SCALE_FACTORS: [u32; 2] = [1_000_000, 500_000];
 
-// Ends a day that is this ledger's. Open and measured days are ended apart: a trait over the two would have these same two bodies.
-fn end_open(ledger: &mut Ledger, day: OpenDay)
-    requires { is_open ledger.old.book.phase day.number ≡ true }
-{
-    match ledger.abandon_open(day) {
-        Ok(()) => {}
-        Err(_) => unreachable(),
-    }
-}
-
-fn end_measured(ledger: &mut Ledger, day: MeasuredDay)
-    requires { is_measured ledger.old.book.phase day.number ≡ true }
-{
-    match ledger.abandon_measured(day) {
-        Ok(()) => {}
-        Err(_) => unreachable(),
-    }
-}
-
 // Admits a trader, and a point of his for each scale factor: in segment 0, then in 1.
 fn admit(ledger: &mut Ledger, points: &mut [Point]) -> Result<u32, Refusal> {
     let trader = ledger.admit_trader()?;
@@ -63,49 +44,72 @@ fn admit(ledger: &mut Ledger, points: &mut [Point]) -> Result<u32, Refusal> {
     Ok(trader)
 }
 
-// Opens the day.
-fn measure(ledger: &mut Ledger, trader: u32) -> Result<MeasuredDay, Refusal>
-    ensures { IfOk result (λ day. is_measured ledger.new.book.phase day.number ≡ true) }
-{
-    let day = ledger.open(WEATHER)?;
-    take_figures(ledger, day, trader)
+// A ledger and its open day.
+struct Open {
+    ledger: Ledger,
+    day: OpenDay,
+    ghost runs: { is_open ledger.book.phase day.number ≡ true },
 }
 
-// Enters the trader's litres and takes the inflow.
-fn take_figures(ledger: &mut Ledger, day: OpenDay, trader: u32) -> Result<MeasuredDay, Refusal>
-    requires { is_open ledger.old.book.phase day.number ≡ true }
-    ensures { IfOk result (λ measured. is_measured ledger.new.book.phase measured.number ≡ true) }
-{
-    if let Err(why) = ledger.enter(&day, trader, METERED) {
-        end_open(ledger, day);
-        return Err(why);
+impl Open {
+    fn new(mut ledger: Ledger) -> Result<Open, Refusal> {
+        let day = ledger.open(WEATHER)?;
+        Ok(Open { ledger, day })
     }
-    match ledger.take_inflow(day, INFLOW, LOSS_RATE) {
-        Ok(measured) => Ok(measured),
-        Err(Refused { why, given }) => {
-            end_open(ledger, given);
-            Err(why)
+
+    // Ends the day. A measured day has an ending of its own: the ledger has a call for each, so a trait over the two would have these
+    // same two bodies.
+    fn end(self) {
+        let Open { mut ledger, day } = self;
+        ledger.abandon_open(day).unwrap();
+    }
+
+    // Enters the trader's litres and takes the inflow, and ends the day where one of them is refused.
+    fn measure(self, trader: u32) -> Result<Measured, Refusal> {
+        let Open { mut ledger, day } = self;
+        if let Err(why) = ledger.enter(&day, trader, METERED) {
+            Open { ledger, day }.end();
+            return Err(why);
+        }
+        match ledger.take_inflow(day, INFLOW, LOSS_RATE) {
+            Ok(day) => Ok(Measured { ledger, day }),
+            Err(Refused { why, given: day }) => {
+                Open { ledger, day }.end();
+                Err(why)
+            }
         }
     }
 }
 
-// Shares a measured day out, and ends it where that is refused.
-fn share_day<P: Profile, R: ShareRule>(
-    ledger: &mut Ledger,
+// A ledger and its measured day.
+struct Measured {
+    ledger: Ledger,
     day: MeasuredDay,
-    points: &mut [Point],
-    profile: &P,
-    rule: &R,
-    uses: &mut [u64],
-    shares: &mut [u64],
-) -> Result<SharedOut, Refusal>
-    requires { is_measured ledger.old.book.phase day.number ≡ true }
-{
-    match ledger.share_out(day, points, profile, rule, uses, shares) {
-        Ok(told) => Ok(told),
-        Err(Refused { why, given }) => {
-            end_measured(ledger, given);
-            Err(why)
+    ghost runs: { is_measured ledger.book.phase day.number ≡ true },
+}
+
+impl Measured {
+    fn end(self) {
+        let Measured { mut ledger, day } = self;
+        ledger.abandon_measured(day).unwrap();
+    }
+
+    // Shares the day out, and ends it where that is refused.
+    fn share<P: Profile, R: ShareRule>(
+        self,
+        points: &mut [Point],
+        profile: &P,
+        rule: &R,
+    ) -> Result<Worked, Refusal> {
+        let Measured { mut ledger, day } = self;
+        let mut uses = [0; 2];
+        let mut shares = [0; 2];
+        match ledger.share_out(day, points, profile, rule, &mut uses, &mut shares) {
+            Ok(told) => Ok(Worked { told, uses, shares }),
+            Err(Refused { why, given: day }) => {
+                Measured { ledger, day }.end();
+                Err(why)
+            }
         }
     }
 }
@@ -118,49 +122,38 @@ struct Worked {
     shares: [u64; 2],
 }
 
+impl Worked {
+    // The day's line, and one for each point.
+    fn lines(&self, page: &mut Page, name: &str) -> fmt::Result {
+        page.begin("day")?;
+        page.name(name)?;
+        page.numbers(&[INFLOW, u64::from(LOSS_RATE), METERED])?;
+        page.colon()?;
+        page.numbers(&[self.told.loss, self.told.quantity, self.told.total])?;
+        page.end()?;
+        for ((scale, uses), share) in SCALE_FACTORS.iter().zip(&self.uses).zip(&self.shares) {
+            page.begin("point")?;
+            page.name(name)?;
+            page.numbers(&[u64::from(*scale), u64::from(DAY_FACTOR)])?;
+            page.colon()?;
+            page.numbers(&[*uses, *share])?;
+            page.end()?;
+        }
+        Ok(())
+    }
+}
+
 fn settle<R: ShareRule>(rule: &R) -> Result<Worked, Refusal> {
     let even = EvenProfile::new(DAY_FACTOR)?;
     let mut ledger = Ledger::new(FIRST_DAY);
     let mut points = [Point::UNUSED; 2];
-    let mut uses = [0; 2];
-    let mut shares = [0; 2];
     let trader = admit(&mut ledger, &mut points)?;
-    let day = measure(&mut ledger, trader)?;
-    let told = share_day(
-        &mut ledger,
-        day,
-        &mut points,
-        &even,
-        rule,
-        &mut uses,
-        &mut shares,
-    )?;
-    Ok(Worked { told, uses, shares })
-}
-
-fn day_line(page: &mut Page, name: &str, told: SharedOut) -> fmt::Result {
-    page.begin("day")?;
-    page.name(name)?;
-    page.numbers(&[INFLOW, u64::from(LOSS_RATE), METERED])?;
-    page.colon()?;
-    page.numbers(&[told.loss, told.quantity, told.total])?;
-    page.end()
-}
-
-fn point_line(page: &mut Page, name: &str, scale: u32, uses: u64, share: u64) -> fmt::Result {
-    page.begin("point")?;
-    page.name(name)?;
-    page.numbers(&[u64::from(scale), u64::from(DAY_FACTOR)])?;
-    page.colon()?;
-    page.numbers(&[uses, share])?;
-    page.end()
+    Open::new(ledger)?
+        .measure(trader)?
+        .share(&mut points, &even, rule)
 }
 
 pub(crate) fn day_lines<R: ShareRule>(page: &mut Page, name: &str, rule: &R) -> anyhow::Result<()> {
-    let Worked { told, uses, shares } = settle(rule)?;
-    day_line(page, name, told)?;
-    for ((scale, uses), share) in SCALE_FACTORS.iter().zip(&uses).zip(&shares) {
-        point_line(page, name, *scale, *uses, *share)?;
-    }
+    settle(rule)?.lines(page, name)?;
     Ok(())
 }
