@@ -2,12 +2,12 @@
 #![tactic(auto)]
 
 mod closing;
-pub mod desk;
 mod named;
 pub mod player;
 mod recipe;
 pub mod report;
 pub mod sheets;
 pub mod slips;
+pub mod state;
 pub mod station;
 pub mod trouble;

@@ -6,12 +6,12 @@ ghost use Rattle.player.specs.Playing.{Plays, of_day, of_slip};
 ghost use Rattle.player.specs.Running.{open_day, abandoned};
 
 use crate::closing::{Closing, tell_open_slips};
-use crate::desk::Desk;
 use crate::named::Profiles;
 use crate::recipe::{Layer, Recipe};
 use crate::report::Report;
 use crate::sheets::Sheets;
 use crate::slips::{Slips, Unended};
+use crate::state::State;
 use crate::station::Station;
 use crate::trouble::Trouble;
 use journal::call::Call;
@@ -27,7 +27,7 @@ const PLACES: usize = ledger::MAX_POINTS;
 // A journal's points are u32 and a ledger's usize, which goes by a cast: there is no `From` between them.
 pub struct Player {
     heap: Global,
-    desk: Desk,
+    state: State,
     profiles: Profiles,
     // their names
     traders: Vec<Vec<u8>>,
@@ -46,23 +46,23 @@ impl Player {
         first_day: u32,
         report: &mut Report,
     ) -> Result<Player, AllocError>
-        ensures sheet { IfOk result (λ p. vec_len p.desk.sheets.points ≡ 4096) }
-        ensures state { IfOk result (λ p. p.desk.station.ledger.book ≡ new_book first_day) }
-        ensures none { IfOk result (λ p. vec_len p.desk.slips.open ≡ 0) }
+        ensures sheet { IfOk result (λ p. vec_len p.state.sheets.points ≡ 4096) }
+        ensures state { IfOk result (λ p. p.state.station.ledger.book ≡ new_book first_day) }
+        ensures none { IfOk result (λ p. vec_len p.state.slips.open ≡ 0) }
     {
         report.go_to(line);
         report.tell(Kind::Ledger, Ok(first_day), |report, day| {
             report.field("day", day)
         })?;
         let sheets = Sheets::new(heap, PLACES)?;
-        let desk = Desk {
+        let state = State {
             station: Station::new(first_day),
             slips: Slips::new(heap),
             sheets,
         };
         Ok(Player {
             heap,
-            desk,
+            state,
             profiles: Profiles::new(heap),
             traders: Vec::new(heap),
             measured: 0,
@@ -79,7 +79,7 @@ impl Player {
         numbers: Vec<u32>,
         report: &mut Report,
     ) -> Result<(), Trouble>
-        ensures { Plays call.entry self.old.desk.sheets.points.items self.old.desk.station.running self.old.desk.station.ledger.book self.new.desk.station.ledger.book }
+        ensures { Plays call.entry self.old.state.sheets.points.items self.old.state.station.running self.old.state.station.ledger.book self.new.state.station.ledger.book }
     {
         report.go_to(line);
         match call {
@@ -111,7 +111,7 @@ impl Player {
         numbers: Vec<u32>,
         report: &mut Report,
     ) -> Result<(), Trouble>
-        ensures { of_day call.entry ≡ false → of_slip call.entry ≡ false → Plays call.entry self.old.desk.sheets.points.items self.old.desk.station.running self.old.desk.station.ledger.book self.new.desk.station.ledger.book }
+        ensures { of_day call.entry ≡ false → of_slip call.entry ≡ false → Plays call.entry self.old.state.sheets.points.items self.old.state.station.running self.old.state.station.ledger.book self.new.state.station.ledger.book }
     {
         match call {
             Call::Trader { name } => self.admit_trader(name.unwrap_or(b"-"), report),
@@ -136,7 +136,7 @@ impl Player {
             Call::Enter { trader, litres } => self.enter(trader, litres, report),
             Call::Quantity { trader } => self.quantity(trader, report),
             _ => set_up(
-                &mut self.desk.sheets,
+                &mut self.state.sheets,
                 &mut self.profiles,
                 self.heap,
                 call,
@@ -147,9 +147,9 @@ impl Player {
     }
 
     fn admit_trader(&mut self, name: &[u8], report: &mut Report) -> Result<(), Trouble>
-        ensures { self.new.desk.station.ledger.book ≡ admit_book self.old.desk.station.ledger.book }
+        ensures { self.new.state.station.ledger.book ≡ admit_book self.old.state.station.ledger.book }
     {
-        let told = self.desk.station.admit_trader();
+        let told = self.state.station.admit_trader();
         if told.is_ok() {
             self.traders.push(Vec::from_slice(self.heap, name)?)?;
         }
@@ -160,19 +160,19 @@ impl Player {
     }
 
     fn admit_point(&mut self, given: Particulars, report: &mut Report) -> Result<(), Trouble>
-        ensures { self.new.desk.station.ledger.book ≡ point_book self.old.desk.station.ledger.book self.old.desk.sheets.points.items given }
+        ensures { self.new.state.station.ledger.book ≡ point_book self.old.state.station.ledger.book self.old.state.sheets.points.items given }
     {
-        let sheet = self.desk.sheets.points.as_mut_slice();
-        let told = self.desk.station.admit_point(sheet, given);
-        self.desk.sheets.settled = true;
+        let sheet = self.state.sheets.points.as_mut_slice();
+        let told = self.state.station.admit_point(sheet, given);
+        self.state.sheets.settled = true;
         Ok(report.tell(Kind::Point, told, |report, point| report.number(point))?)
     }
 
     fn open(&mut self, weather: Weather, report: &mut Report) -> Result<(), Trouble>
-        ensures { self.new.desk.station.ledger.book ≡ open_book self.old.desk.station.ledger.book weather.temperature weather.season }
+        ensures { self.new.state.station.ledger.book ≡ open_book self.old.state.station.ledger.book weather.temperature weather.season }
     {
-        let day = self.desk.station.ledger().next_day();
-        let told = self.desk.station.open(weather);
+        let day = self.state.station.ledger().next_day();
+        let told = self.state.station.open(weather);
         Ok(report.tell(Kind::Open, told, |report, opening| {
             report.field("opening", opening)?;
             report.field("day", day)
@@ -180,9 +180,9 @@ impl Player {
     }
 
     fn enter(&mut self, trader: u32, litres: u64, report: &mut Report) -> Result<(), Trouble>
-        ensures { self.new.desk.station.ledger.book ≡ enter_book self.old.desk.station.ledger.book (open_day self.old.desk.station.running) trader litres }
+        ensures { self.new.state.station.ledger.book ≡ enter_book self.old.state.station.ledger.book (open_day self.old.state.station.running) trader litres }
     {
-        let told = self.desk.station.enter(trader, litres);
+        let told = self.state.station.enter(trader, litres);
         Ok(report.tell(Kind::Enter, told, |report, metered| {
             report.field("trader", trader)?;
             report.field("metered", metered)
@@ -190,9 +190,9 @@ impl Player {
     }
 
     fn take_inflow(&mut self, litres: u64, rate: u32, report: &mut Report) -> Result<(), Trouble>
-        ensures { self.new.desk.station.ledger.book ≡ inflow_book self.old.desk.station.ledger.book (open_day self.old.desk.station.running) litres rate }
+        ensures { self.new.state.station.ledger.book ≡ inflow_book self.old.state.station.ledger.book (open_day self.old.state.station.running) litres rate }
     {
-        let told = self.desk.station.take_inflow(litres, rate);
+        let told = self.state.station.take_inflow(litres, rate);
         if told.is_ok() {
             self.measured = litres;
         }
@@ -203,13 +203,13 @@ impl Player {
 
     // A share-out's quantity, sum and loss, then each point's consumption and share.
     fn share(&mut self, name: &[u8], rule: Rule, report: &mut Report) -> Result<(), Trouble> {
-        let points = self.desk.station.ledger().counts().points;
+        let points = self.state.station.ledger().counts().points;
         let recipe = self.profiles.find(name)?;
         // Two types, of which each call has one: the contract of a share-out names the rule's shares by its type. (Tried: a `&dyn ShareRule`
         // cannot stand for that type.)
         let told = match rule {
-            Rule::Running => recipe.share(&mut self.desk, &Running),
-            Rule::Largest => recipe.share(&mut self.desk, &LargestRemainder),
+            Rule::Running => recipe.share(&mut self.state, &Running),
+            Rule::Largest => recipe.share(&mut self.state, &LargestRemainder),
         };
         report.tell(Kind::Share, told, |report, out| {
             report.field("A", out.quantity)?;
@@ -218,7 +218,7 @@ impl Player {
         })?;
         if told.is_ok() {
             self.inflow = self.inflow.saturating_add(self.measured);
-            let sheets = &self.desk.sheets;
+            let sheets = &self.state.sheets;
             let both = sheets.uses.iter().zip(sheets.shares.iter());
             for (point, (consumption, share)) in (0u64..).zip(both).take(points) {
                 report.point(point, *consumption, *share)?;
@@ -228,16 +228,16 @@ impl Player {
     }
 
     fn abandon(&mut self, report: &mut Report) -> Result<(), Trouble>
-        ensures { self.new.desk.station.ledger.book ≡ abandoned self.old.desk.station.ledger.book self.old.desk.station.running }
+        ensures { self.new.state.station.ledger.book ≡ abandoned self.old.state.station.ledger.book self.old.state.station.running }
     {
-        let told = self.desk.station.abandon();
+        let told = self.state.station.abandon();
         Ok(report.tell(Kind::Abandon, told, |report, opening| {
             report.field("opening", opening)
         })?)
     }
 
     fn read(&mut self, point: u32, reading: u32, report: &mut Report) -> Result<(), Trouble> {
-        let told = self.desk.read(point as usize, reading)?;
+        let told = self.state.read(point as usize, reading)?;
         Ok(report.tell(Kind::Read, told, |report, slip| {
             report.field("point", point)?;
             report.field("slip", slip)
@@ -245,7 +245,7 @@ impl Player {
     }
 
     fn book(&mut self, point: u32, report: &mut Report) -> Result<(), Trouble> {
-        let told = self.desk.book(point as usize);
+        let told = self.state.book(point as usize);
         Ok(report.tell(Kind::Book, told, |report, correction| {
             report.field("point", point)?;
             report.field("correction", correction)
@@ -253,7 +253,7 @@ impl Player {
     }
 
     fn hand_over(&mut self, point: u32, trader: u32, report: &mut Report) -> Result<(), Trouble> {
-        let told = self.desk.hand_over(point as usize, trader);
+        let told = self.state.hand_over(point as usize, trader);
         Ok(report.tell(Kind::HandOver, told, |report, correction| {
             report.field("point", point)?;
             report.field("trader", trader)?;
@@ -262,9 +262,9 @@ impl Player {
     }
 
     fn withdraw(&mut self, point: u32, report: &mut Report) -> Result<(), Trouble>
-        ensures { self.new.desk.station.ledger.book ≡ self.old.desk.station.ledger.book }
+        ensures { self.new.state.station.ledger.book ≡ self.old.state.station.ledger.book }
     {
-        let told = self.desk.withdraw(point as usize);
+        let told = self.state.withdraw(point as usize);
         Ok(report.tell(Kind::Withdraw, told, |report, slip| {
             report.field("point", point)?;
             report.field("slip", slip)
@@ -272,7 +272,7 @@ impl Player {
     }
 
     fn quantity(&self, trader: u32, report: &mut Report) -> Result<(), Trouble> {
-        let (station, sheets) = (&self.desk.station, &self.desk.sheets);
+        let (station, sheets) = (&self.state.station, &self.state.sheets);
         let told = station
             .ledger()
             .open_quantity(sheets.points.as_slice(), trader);
@@ -285,20 +285,20 @@ impl Player {
     // The closing report. Slips that are still open are named and withdrawn, and a day that still runs is named and abandoned. Slips that
     // the ledger would not take back come back before anything else: they cannot be let go, so they are the outer error.
     pub fn close(self, report: &mut Report) -> Result<Result<(), Trouble>, Unended> {
-        let named = tell_open_slips(&self.desk.slips, report);
+        let named = tell_open_slips(&self.state.slips, report);
         let Player {
             heap: _,
-            desk,
+            state,
             profiles: _,
             traders,
             measured: _,
             inflow,
         } = self;
-        let Desk {
+        let State {
             mut station,
             slips,
             mut sheets,
-        } = desk;
+        } = state;
         let told = station.abandon();
         let ledger = station.close();
         slips.end(&ledger, sheets.points.as_mut_slice())?;
@@ -315,17 +315,17 @@ impl Player {
     pub fn end(self) -> Result<(), Unended> {
         let Player {
             heap: _,
-            desk,
+            state,
             profiles: _,
             traders: _,
             measured: _,
             inflow: _,
         } = self;
-        let Desk {
+        let State {
             station,
             slips,
             mut sheets,
-        } = desk;
+        } = state;
         let closed = station.close();
         slips.end(&closed, sheets.points.as_mut_slice())
     }

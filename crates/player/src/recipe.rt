@@ -1,5 +1,5 @@
 // How a named profile is made: a table or an even profile, and up to two season layers over it.
-use crate::desk::Desk;
+use crate::state::State;
 use ledger::SharedOut;
 use profiles::{EvenProfile, Profile, SeasonLayer, TableProfile};
 use refusals::Refusal;
@@ -91,27 +91,27 @@ impl Recipe {
     // Shares the measured day out by this profile.
     pub(crate) fn share<R: ShareRule>(
         &self,
-        desk: &mut Desk,
+        state: &mut State,
         rule: &R,
     ) -> Result<SharedOut, Refusal> {
         match &self.base {
-            Base::Table(numbers) => { self.share_over(table(numbers.as_slice())?, desk, rule) }
-            Base::Even(factor) => { self.share_over(EvenProfile::new(*factor)?, desk, rule) }
+            Base::Table(numbers) => { self.share_over(table(numbers.as_slice())?, state, rule) }
+            Base::Even(factor) => { self.share_over(EvenProfile::new(*factor)?, state, rule) }
         }
     }
 
     fn share_over<P: Profile + Drop, R: ShareRule>(
         &self,
         base: P,
-        desk: &mut Desk,
+        state: &mut State,
         rule: &R,
     ) -> Result<SharedOut, Refusal> {
         match self.layers.as_slice() {
-            [] => desk.share(&base, rule),
-            [layer] => desk.share(&layer.over(base)?, rule),
+            [] => state.share(&base, rule),
+            [layer] => state.share(&layer.over(base)?, rule),
             [lower, upper, ..] => {
                 let lower = lower.over(base)?;
-                desk.share(&upper.over(lower)?, rule)
+                state.share(&upper.over(lower)?, rule)
             }
         }
     }

@@ -11,13 +11,13 @@ use shares::ShareRule;
 use std::alloc::AllocError;
 
 // Beside it a call has the numbers of its line, two at most: a struct for those is no plainer, since each step would take it apart.
-pub struct Desk {
+pub struct State {
     pub(crate) station: Station,
     pub(crate) slips: Slips,
     pub(crate) sheets: Sheets,
 }
 
-impl Desk {
+impl State {
     // Shares the measured day out.
     pub(crate) fn share<P: Profile, R: ShareRule>(
         &mut self,
