@@ -63,6 +63,7 @@ fn outside(rt: HostRuntime) -> Result<(), Fail> {
 fn refused_sheets(rt: HostRuntime) {
     let mut table = table();
     assert_eq!(rt; table.fill(&[1; 761]), Err(Refusal::ProfileSheet));
+    assert_eq!(rt; table.fill(&[1; 763]), Err(Refusal::ProfileSheet));
     let mut sheet = [1; 762];
     sheet[761] = 10_000_001;
     assert_eq!(rt; table.fill(&sheet), Err(Refusal::ProfileSheet));
@@ -83,6 +84,25 @@ fn pile() -> Result<SeasonLayer<SeasonLayer<TableProfile>>, Fail> {
     sheet[1523] = 20_000_000;
     upper.fill(&sheet)?;
     Ok(upper)
+}
+
+// A layer's sheet too short, too long and with a number past its limit: the pile tells what it told.
+#[test]
+fn refused_layer_sheets(rt: HostRuntime) -> Result<(), Fail> {
+    let mut pile = pile()?;
+    assert_eq!(rt; pile.fill(&[1; 1523]), Err(Refusal::ProfileSheet));
+    assert_eq!(rt; pile.fill(&[1; 1525]), Err(Refusal::ProfileSheet));
+    let mut sheet = [1; 1524];
+    sheet[1523] = 20_000_001;
+    assert_eq!(rt; pile.fill(&sheet), Err(Refusal::ProfileSheet));
+    assert_eq!(rt;
+        pile.tell(1, at(-80, 3)),
+        Factors {
+            multiplier: 14,
+            day: 28,
+        }
+    );
+    Ok(())
 }
 
 #[test]
