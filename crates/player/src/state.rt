@@ -10,7 +10,7 @@ use refusals::Refusal;
 use shares::ShareRule;
 use std::alloc::AllocError;
 
-// Beside it a call has the numbers of its line, two at most: a struct for those is no plainer, since each step would take it apart.
+// A point's calls take the numbers of their line too, two at most: a struct for those is no plainer, since each step would take it apart.
 pub struct State {
     pub(crate) station: Station,
     pub(crate) slips: Slips,
