@@ -102,7 +102,7 @@ impl Date {
             + u32::from(self.day - 1)
     }
 
-    // The number of this day; a call and no `TryFrom`, since a date is no kind of number. It is one that `from_number` leads back from, to this date and no other.
+    // The number of this day. It and `from_number` are the public names; a `TryFrom` would only stand beside them. It is one that `from_number` leads back from, to this date and no other.
     pub fn number(self) -> Result<u32, Refusal>
         ensures value { result ≡ day_of self }
         ensures back { IfOk result (λ n. (n ≤ 36524) × Dated n self) }

@@ -9,6 +9,7 @@ use crate::fault::Fault;
 use crate::number::read;
 use crate::words::{cut_at, split, uncommented};
 use std::alloc::{AllocError, AllocFailed, Global};
+use thiserror::Error;
 
 // The first line without its line feed, and what stands behind the line feed.
 pub fn cut_line(text: &[u8]) -> (&[u8], &[u8])
@@ -53,9 +54,11 @@ impl<'a> Iterator for Lines<'a> {
 }
 
 // Why a file of numbers is malformed, and its line, from 1.
-#[derive(Clone, Copy)]
+#[derive(Clone, Copy, Debug, Error)]
 pub enum SheetFault {
+    #[error("no memory left")]
     Memory,
+    #[error("line {line} of the file: {fault}")]
     Malformed { line: u64, fault: Fault },
 }
 

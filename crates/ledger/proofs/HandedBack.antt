@@ -1,5 +1,6 @@
 -- The token, a day or a slip, that a refusal hands back.
-use Rattle.std.proofs.Common.{◌≡◌, IfErr, IfOk, None, Some, Err, Option, Result, sym, refl, ap, ◌∙◌, subst, MatchResult}
+use Rattle.std.proofs.Common.{◌≡◌, IfErr, None, Some, Option, Result, sym, refl, ap, ◌∙◌, subst, MatchResult}
+use Rattle.std.specs.Result.{IsOk}
 use Rattle.refusals.specs.declared.Refusal.{Refusal}
 use Rattle.ledger.specs.declared.book.Book.{Book}
 use Rattle.refusals.specs.declared.Refused.{Refused}
@@ -13,8 +14,8 @@ same_token f t x r er =
     (by_option (λ o. IfErr (handed_back o t x) (λ e. e.given ≡ t)) f (λ _. tt) (λ _. refl))
 
 -- a call without a ground of refusal is not refused
-pub never : {A T : Type 0} (f : Option Refusal) (t : T) (x : A) (e : Refused T) → f ≡ None → Err e ≡ handed_back f t x → ⊥
-never f t x e none is = subst (λ z. IfOk z (λ _. ⊥)) (is ∙ ap (λ (o : Option Refusal). handed_back o t x) none) tt
+pub taken : {A T : Type 0} (f : Option Refusal) (t : T) (x : A) (r : Result A (Refused T)) → f ≡ None → r ≡ handed_back f t x → IsOk r
+taken f t x r none is = subst IsOk (sym (is ∙ ap (λ (o : Option Refusal). handed_back o t x) none)) refl
 
 -- the token and the running day after a refusal
 abbrev pub Back : {T : Type 0} → T → Book → Book → Refused T → Type 0

@@ -80,7 +80,7 @@ impl Ledger {
         ensures value { result ≡ all_accounts self.now.book.traders }
         ensures bound { Near result 400_000_000_000_000_000_000 }
     {
-        // A loop: `sum` of signed numbers asks a bound of the whole list, which our lemma of one step more does not give.
+        // Tried: `sum`, which of signed numbers asks a bound of the whole list, which our lemma of one step more does not give.
         let mut all = 0;
         for trader in &self.book.traders {
             all += i128::from(trader.account);

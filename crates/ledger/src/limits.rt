@@ -1,4 +1,5 @@
-// The limits of the ledger, each in this one place. The public ones are told for programs over the ledger.
+// The limits of the ledger that a call compares with. The public ones are told for programs over the ledger. Ends of a row's numbers
+// stand in `Point::in_range`; that there are 64 places for traders is the length of their array.
 
 pub(crate) const MAX_TRADERS: u32 = 64;
 
@@ -16,7 +17,7 @@ pub(crate) const MAX_OPENED: u32 = 1_000_000;
 
 pub(crate) const MAX_READINGS: u32 = 1_000_000;
 
-// 31 December 2099.
+// 31 December 2099. The calendar has it too: for one number the ledger would have to stand on it.
 pub(crate) const LAST_DAY: u32 = 36524;
 
 pub(crate) const MAX_SCALE: u32 = 2_000_000;

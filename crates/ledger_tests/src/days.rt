@@ -15,20 +15,14 @@ use std::test::Fail;
 pub(crate) fn end_open(ledger: &mut Ledger, day: OpenDay)
     requires { is_open ledger.old.book.phase day.number ≡ true }
 {
-    match ledger.abandon_open(day) {
-        Ok(()) => {}
-        Err(_) => unreachable(),
-    }
+    ledger.abandon_open(day).unwrap();
 }
 
 // Ends a measured day that is this ledger's.
 pub(crate) fn end_measured(ledger: &mut Ledger, day: MeasuredDay)
     requires { is_measured ledger.old.book.phase day.number ≡ true }
 {
-    match ledger.abandon_measured(day) {
-        Ok(()) => {}
-        Err(_) => unreachable(),
-    }
+    ledger.abandon_measured(day).unwrap();
 }
 
 // An open day of this ledger's.

@@ -31,13 +31,12 @@ fn opening_beside(ledger: &mut Ledger, day: &OpenDay, temperature: i16) -> Outco
     ensures { is_open ledger.new.book.phase day.now.number ≡ true }
 {
     let before = Seen::of(ledger);
-    match ledger.open(Weather {
+    let weather = Weather {
         temperature,
         season: 1,
-    }) {
-        Ok(_) => unreachable(),
-        Err(why) => Outcome::new(Some(why.number()), before, ledger),
-    }
+    };
+    let why = ledger.open(weather).unwrap_err();
+    Outcome::new(Some(why.number()), before, ledger)
 }
 
 #[test]

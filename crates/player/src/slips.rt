@@ -68,10 +68,7 @@ impl Slips {
         requires made { Made slip }
     {
         let place = self.place(slip.point()).unwrap_or_else(|place| place);
-        match self.open.insert(place, slip) {
-            Ok(()) => {}
-            Err(_) => unreachable(),
-        }
+        self.open.insert(place, slip).unwrap();
     }
 
     // What a call with a slip was told. Where it was refused the slip stays open.
@@ -144,8 +141,5 @@ fn end_slip(ledger: &Ledger, slip: Slip)
         slip: slip.number(),
         ..Point::UNUSED
     };
-    match ledger.withdraw(&mut [row; MAX_POINTS], slip) {
-        Ok(()) => {}
-        Err(_) => unreachable(),
-    }
+    ledger.withdraw(&mut [row; MAX_POINTS], slip).unwrap();
 }

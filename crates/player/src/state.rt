@@ -35,17 +35,17 @@ impl State {
     ) -> Result<Result<u32, Refusal>, AllocError> {
         self.slips.reserve()?;
         let sheet = self.sheets.points.as_mut_slice();
-        match self.station.read(sheet, point, reading) {
-            Ok(slip) => {
+        Ok(
+            self.station.read(sheet, point, reading).map(|slip| {
                 let number = slip.number();
                 self.slips.put(slip);
-                Ok(Ok(number))
-            }
-            Err(why) => Ok(Err(why)),
-        }
+                number
+            }),
+        )
     }
 
-    // Books the point's open slip: the correction.
+    // Books the point's open slip: the correction. The steps of this and the next two are alike but for the call. Tried: one function
+    // over a closure; of sheets that a closure borrows, the facts that their type keeps are not known after it.
     pub(crate) fn book(&mut self, point: usize) -> Result<i64, Refusal> {
         let none = self.no_slip(point);
         let slip = self.slips.take(point).ok_or(none)?;

@@ -46,6 +46,7 @@ impl Station {
         &self.ledger
     }
 
+    // This call, the next and `enter` say that the running day stays, since it lies in this type beside the ledger.
     pub(crate) fn admit_trader(&mut self) -> Result<u32, Refusal>
         ensures answer { result ≡ admit_answer self.old.ledger.book }
         ensures state { self.new.ledger.book ≡ admit_book self.old.ledger.book }
@@ -67,7 +68,7 @@ impl Station {
         self.ledger.admit_point(sheet, given)
     }
 
-    // Reads a point. Calls that leave the running day say so, since it lies in this type beside the ledger.
+    // Reads a point.
     pub(crate) fn read(
         &mut self,
         sheet: &mut [Point],
@@ -206,17 +207,13 @@ impl Station {
             Running::Idle => Err(Refusal::NotRunning),
             Running::Open(day) => {
                 let number = day.number();
-                match self.ledger.abandon_open(day) {
-                    Ok(()) => Ok(number),
-                    Err(_) => unreachable(),
-                }
+                self.ledger.abandon_open(day).unwrap();
+                Ok(number)
             }
             Running::Measured(day) => {
                 let number = day.number();
-                match self.ledger.abandon_measured(day) {
-                    Ok(()) => Ok(number),
-                    Err(_) => unreachable(),
-                }
+                self.ledger.abandon_measured(day).unwrap();
+                Ok(number)
             }
         }
     }

@@ -21,8 +21,8 @@ pub enum Halt {
     NoFile,
     #[error("the file cannot be read")]
     Unreadable,
-    #[error("line {line} of the file: {fault}")]
-    Sheet { line: u64, fault: Fault },
+    #[error("{0}")]
+    Sheet(#[from] SheetFault),
     #[error("no memory left")]
     Memory,
     #[error("standard output cannot be written")]
@@ -32,15 +32,6 @@ pub enum Halt {
 impl From<AllocError> for Halt {
     fn from(_e: AllocError) -> Halt {
         Halt::Memory
-    }
-}
-
-impl From<SheetFault> for Halt {
-    fn from(e: SheetFault) -> Halt {
-        match e {
-            SheetFault::Memory => Halt::Memory,
-            SheetFault::Malformed { line, fault } => Halt::Sheet { line, fault },
-        }
     }
 }
 

@@ -69,7 +69,7 @@ impl Ledger {
         Ok(())
     }
 
-    // Adds litres to a trader's metered sum of today.
+    // Adds litres to a trader's metered sum of today: two numbers of one call, as in `take_inflow`.
     pub fn enter(&mut self, day: &OpenDay, trader: u32, litres: u64) -> Result<(), Refusal>
         ensures answer { result ≡ enter_answer self.old.book day.now trader litres }
         ensures state { self.new.book ≡ enter_book self.old.book day.now trader litres }

@@ -1,4 +1,5 @@
-// Readings: a slip is opened, and ended by a booking, a hand-over or a withdrawal.
+// Readings: a slip is opened, and ended by a booking, a hand-over or a withdrawal. A call takes the sheet and the slip, or the sheet and
+// the point, each by itself: both are the caller's (a rule of the project).
 ghost use Rattle.std.specs.Prelude.{◌≡◌, ◌+◌, ◌*◌, ◌^◌, ◌<◌, ◌≤◌, true, Some, None, IfOk, IfErr};
 ghost use Rattle.ledger.specs.Grounds.{answered};
 ghost use Rattle.ledger.specs.History.{Goes, PointRead, Booked, HandedOver, Withdrawn};

@@ -194,7 +194,8 @@ impl Ledger {
     }
 
     // Shares out a measured day by a profile and a share rule. The first work sheet gets the points' profile consumptions, the
-    // second their shares. The three sheets stay lent slices of their own, since the caller owns each (a rule of the project).
+    // second their shares. The three sheets stay lent slices of their own, since the caller owns each (a rule of the project), and
+    // profile and rule are chosen apart.
     pub fn share_out<P: Profile, R: ShareRule>(
         &mut self,
         day: MeasuredDay,

@@ -153,6 +153,7 @@ fn handed_over_within(
 ) -> Result<i64, Fail>
     requires { is_measured ledger.old.book.phase day.number ≡ true }
 {
+    // Tried: `and_then`. What its closure leaves of the running day is not known after it.
     let told = match reading(ledger, sheet, 0, 15) {
         Ok(slip) => ended(ledger, sheet, slip, Call::HandOver(1)),
         Err(why) => Err(why),

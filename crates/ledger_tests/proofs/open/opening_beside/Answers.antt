@@ -7,5 +7,5 @@ use Rattle.ledger_tests.proofs.open.opening_beside.Goals as goal
 pub returns : goal.returns
 returns c =
     let e = c.open.ensures in
-    let same = refused_open _ _ _ c.args.ledger.now.book _ _ (sym c.in-Err.is ∙ e.answer) e.state in
+    let same = refused_open _ _ _ c.args.ledger.now.book _ _ (sym c.unwrap_err-why.ensures ∙ e.answer) e.state in
     subst (λ (p : Phase). is_open p c.args.day.now.number ≡ true) (sym same) c.requires
