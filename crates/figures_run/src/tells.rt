@@ -3,10 +3,10 @@ use crate::page::Page;
 use profiles::{Profile, SeasonLayer, TableProfile, Weather};
 use std::alloc::{AllocError, Global};
 
-// The ends of the sheet and of what may be asked.
-const COLD: [i16; 4] = [-400, -81, -80, -79];
+// The ends of what may be asked, and the tenths next to the sheet.
+const COLD: [i16; 2] = [-400, -81];
 
-const WARM: [i16; 4] = [299, 300, 301, 500];
+const WARM: [i16; 2] = [301, 500];
 
 const LAYER_TEMPERATURES: [i16; 8] = [-100, -80, -33, 0, 105, 299, 300, 301];
 
@@ -44,10 +44,10 @@ fn questions(
         .collect(heap)
 }
 
-// Both ends, and each seventh tenth of the sheet between them.
+// Each tenth of the sheet, and what lies outside it.
 fn temperatures(heap: Global) -> Result<Vec<i16>, AllocError> {
     let mut all = Vec::from_slice(heap, &COLD)?;
-    all.extend((-80..=298i16).step_by(7))?;
+    all.extend(-80..=300i16)?;
     all.extend_from_slice(&WARM)?;
     Ok(all)
 }

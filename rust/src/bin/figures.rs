@@ -4,9 +4,8 @@
 //! Every line is words and numbers separated by single spaces and ends with a line feed. In order:
 //!
 //! 1. `table SEGMENT TEMPERATURE FACTOR`, the multiplier of a table profile filled from SHEET, in
-//!    season 0. Segment 0, then 1; within a segment the temperatures, in tenths:
-//!    -400 -81 -80 -79, then -80 -73 .. 298 in steps of 7 (-80 so comes twice), then
-//!    299 300 301 500.
+//!    season 0. Segment 0, then 1; within a segment the temperatures, in tenths: -400, -81, then
+//!    each from -80 to 300, then 301 and 500.
 //! 2. `layer SEGMENT SEASON TEMPERATURE MULTIPLIER DAY`, both numbers of a season layer on
 //!    segment 1 over that table; its season number at (season, column) is
 //!    (season * 381 + column) * 13127 % 20000001. Segments 0, 1, 2; within each the seasons 0 to 3;
@@ -62,9 +61,9 @@ fn listing(path: &str) -> Result<String, String> {
 }
 
 fn table_lines(table: &Table) -> Vec<String> {
-    let mut temperatures = vec![-400, -81, -80, -79];
-    temperatures.extend((-80..=300).step_by(7));
-    temperatures.extend([299, 300, 301, 500]);
+    let mut temperatures = vec![-400, -81];
+    temperatures.extend(-80..=300);
+    temperatures.extend([301, 500]);
     let mut lines = Vec::new();
     for segment in 0..2 {
         for &temperature in &temperatures {
