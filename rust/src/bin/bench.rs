@@ -1,17 +1,14 @@
 //! bench: nanoseconds for a whole gas day at 4,096 points, by each share rule.
 //!
-//! Every entry runs the same days on a new ledger: 64 traders, 4,096 points, the even profile of
+//! Each program runs the same days on a new ledger: 64 traders, 4,096 points, the even profile of
 //! 764,445; day d (from 0) is opened at 10.0 degrees in season 0, trader d % 64 has 1,000 metered
 //! litres, inflow is 900,000,000 + d, the loss rate 20,000. Point p is trader p % 64's, of segment
-//! p % 8, 5 digits, 1,000 litres per unit, reading 0, scale factor p * 7,919 % 2,000,001. An entry
-//! takes the number of days and gives the account of trader 7 after them; entries of the same rule
-//! have to agree.
+//! p % 8, 5 digits, 1,000 litres per unit, reading 0, scale factor p * 7,919 % 2,000,001. A program
+//! takes the number of days and gives the account of trader 7 after them.
 //!
-//! With the feature `rattle` the proved library is timed too. It is a static library that exports
-//! `uint64_t keldrava_bench_running(uint32_t days)` and `keldrava_bench_largest`:
-//!
-//!     RUSTFLAGS="-L native=$PWD/crates/NAME/out -l static=NAME" \
-//!         cargo run --release --features rattle --manifest-path rust/Cargo.toml --bin bench
+//! With the feature `rattle` the proved ledger is timed too, in turns with the plain one: the
+//! static library of `crates/bench`, which `tools/bench` builds and links. Their accounts have to
+//! agree; no time is ever a fault.
 
 use std::hint::black_box;
 use std::process::ExitCode;
@@ -28,43 +25,44 @@ const DAYS: u32 = 50;
 const ROUNDS: usize = 101;
 
 /// What is timed: so many days on a new ledger.
-struct Entry {
-    rule: &'static str,
-    program: &'static str,
-    run: fn(u32) -> u64,
+type Days = fn(u32) -> u64;
+
+/// The days by one share rule, in plain Rust and, where it is linked, by the proved ledger.
+struct Rule {
+    name: &'static str,
+    plain: Days,
+    proved: Option<Days>,
 }
 
-const ENTRIES: &[Entry] = &[
-    Entry { rule: "running", program: "plain Rust", run: running },
-    #[cfg(feature = "rattle")]
-    Entry { rule: "running", program: "Rattle", run: rattle::running },
-    Entry { rule: "largest", program: "plain Rust", run: largest },
-    #[cfg(feature = "rattle")]
-    Entry { rule: "largest", program: "Rattle", run: rattle::largest },
+const RULES: [Rule; 2] = [
+    Rule { name: "running", plain: running, proved: proved::RUNNING },
+    Rule { name: "largest", plain: largest, proved: proved::LARGEST },
 ];
 
 #[cfg(feature = "rattle")]
-mod rattle {
+mod proved {
+    use super::Days;
+
     unsafe extern "C" {
         safe fn keldrava_bench_running(days: u32) -> u64;
         safe fn keldrava_bench_largest(days: u32) -> u64;
     }
-    pub fn running(days: u32) -> u64 {
-        keldrava_bench_running(days)
-    }
-    pub fn largest(days: u32) -> u64 {
-        keldrava_bench_largest(days)
-    }
+    pub const RUNNING: Option<Days> = Some(|days| keldrava_bench_running(days));
+    pub const LARGEST: Option<Days> = Some(|days| keldrava_bench_largest(days));
+}
+
+#[cfg(not(feature = "rattle"))]
+mod proved {
+    use super::Days;
+
+    pub const RUNNING: Option<Days> = None;
+    pub const LARGEST: Option<Days> = None;
 }
 
 fn main() -> ExitCode {
     let mut agree = true;
-    for entry in ENTRIES {
-        let Entry { rule, program, run } = entry;
-        let account = run(DAYS);
-        let first = ENTRIES.iter().find(|other| other.rule == *rule);
-        agree &= first.is_none_or(|first| (first.run)(DAYS) == account);
-        println!("{rule}, {program}: {} ns a day, account {account}", nanoseconds_a_day(entry));
+    for rule in RULES {
+        agree &= compare(&rule);
     }
     if agree {
         return ExitCode::SUCCESS;
@@ -73,21 +71,39 @@ fn main() -> ExitCode {
     ExitCode::FAILURE
 }
 
-/// The median over many rounds of the days alone, without making the ledger.
-fn nanoseconds_a_day(entry: &Entry) -> u128 {
-    let mut rounds: Vec<u128> = (0..ROUNDS)
-        .map(|_| {
-            let making = nanoseconds(entry, 0);
-            nanoseconds(entry, DAYS).saturating_sub(making) / u128::from(DAYS)
-        })
-        .collect();
-    rounds.sort_unstable();
-    rounds[ROUNDS / 2]
+/// Times a rule's days and prints what came out; tells whether the accounts agree.
+fn compare(rule: &Rule) -> bool {
+    let Rule { name, plain, proved } = rule;
+    let (mut plain_rounds, mut proved_rounds) = (Vec::new(), Vec::new());
+    for _ in 0..ROUNDS {
+        plain_rounds.push(nanoseconds_a_day(*plain));
+        proved_rounds.extend(proved.map(nanoseconds_a_day));
+    }
+    let (account, time) = (plain(DAYS), median(plain_rounds));
+    println!("{name}, plain Rust: {time} ns a day, account {account}");
+    let Some(proved) = proved else {
+        return true;
+    };
+    let (proved_account, proved_time) = (proved(DAYS), median(proved_rounds));
+    println!("{name}, Rattle: {proved_time} ns a day, account {proved_account}");
+    println!("{name}: {:.2} times plain Rust", proved_time as f64 / time as f64);
+    account == proved_account
 }
 
-fn nanoseconds(entry: &Entry, days: u32) -> u128 {
+/// One round: the time of the days alone, without making the ledger.
+fn nanoseconds_a_day(run: Days) -> u128 {
+    let making = nanoseconds(run, 0);
+    nanoseconds(run, DAYS).saturating_sub(making) / u128::from(DAYS)
+}
+
+fn median(mut rounds: Vec<u128>) -> u128 {
+    rounds.sort_unstable();
+    rounds[rounds.len() / 2]
+}
+
+fn nanoseconds(run: Days, days: u32) -> u128 {
     let start = Instant::now();
-    black_box((entry.run)(black_box(days)));
+    black_box(run(black_box(days)));
     start.elapsed().as_nanos()
 }
 
