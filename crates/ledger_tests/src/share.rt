@@ -8,15 +8,19 @@ use shares::Running;
 use std::process::Abort;
 use std::test::Fail;
 
-// Tries to share out a day of 980,000 litres.
+// An inflow of which 980,000 litres are shared out.
+const INFLOW: u64 = 1_000_000;
+
+// Tries to share out a day of this inflow, of which 2 per cent are lost.
 fn sharing<P: Profile>(
     ledger: &mut Ledger,
+    inflow: u64,
     sheet: &mut [Point],
     profile: &P,
     uses: &mut [u64],
     shares: &mut [u64],
 ) -> Result<Outcome, Fail> {
-    let day = measured(ledger, [0, 0], 1_000_000, 20_000)?;
+    let day = measured(ledger, [0, 0], inflow, 20_000)?;
     let before = Seen::of(ledger);
     match sharing_out(ledger, day, sheet, profile, &Running, uses, shares) {
         Ok(_) => Ok(Outcome::new(None, before, ledger)),
@@ -44,7 +48,14 @@ fn tried<P: Profile, const N: usize, const U: usize, const S: usize>(
     let mut rows = sheet;
     let mut weights = uses;
     let mut parts = shares;
-    let outcome = sharing(&mut ledger, &mut rows, profile, &mut weights, &mut parts)?;
+    let outcome = sharing(
+        &mut ledger,
+        INFLOW,
+        &mut rows,
+        profile,
+        &mut weights,
+        &mut parts,
+    )?;
     let kept = outcome.unchanged && rows == sheet && weights == uses && parts == shares;
     assert!(rt; outcome.accepted() || kept);
     Ok(outcome.number)
@@ -239,7 +250,30 @@ fn nothing_to_share_by(rt: HostRuntime) -> Result<(), Fail> {
     let mut uses = [7; 3];
     let mut shares = [8; 3];
     let profile = even(0)?;
-    assert!(rt; sharing(&mut ledger, &mut sheet, &profile, &mut uses, &mut shares)?.refused(32));
+    let outcome = sharing(
+        &mut ledger,
+        INFLOW,
+        &mut sheet,
+        &profile,
+        &mut uses,
+        &mut shares,
+    )?;
+    assert!(rt; outcome.refused(32));
     assert!(rt; uses == [0, 0, 7] && shares == [8; 3] && sheet == SHEET);
+    Ok(())
+}
+
+// One litre is refused as many are; of an inflow of none there is nothing to share.
+#[test]
+fn one_litre_to_share_by_nothing(rt: HostRuntime) -> Result<(), Fail> {
+    let mut sheet = [Point::UNUSED; 3];
+    let mut ledger = two_points(&mut sheet, SECOND)?;
+    let mut uses = [7; 3];
+    let mut shares = [8; 3];
+    let profile = even(0)?;
+    let one = sharing(&mut ledger, 1, &mut sheet, &profile, &mut uses, &mut shares)?;
+    assert!(rt; one.refused(32));
+    let none = sharing(&mut ledger, 0, &mut sheet, &profile, &mut uses, &mut shares)?;
+    assert!(rt; none.accepted() && shares == [0, 0, 8] && sheet == SHEET);
     Ok(())
 }

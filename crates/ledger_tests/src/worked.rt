@@ -3,7 +3,7 @@ use crate::days::{end_measured, measured, shared_out};
 use crate::seen::Seen;
 use crate::station::{GIVEN, ROW, SECOND, two_points};
 use ledger::{Ledger, Particulars, Point, SharedOut};
-use profiles::EvenProfile;
+use profiles::{EvenProfile, SeasonLayer};
 use shares::{LargestRemainder, Running, ShareRule};
 use std::test::Fail;
 
@@ -179,5 +179,37 @@ fn a_point_joins_between_days(rt: HostRuntime) -> Result<(), Fail> {
     assert!(rt;
         Seen::of(&ledger).account == [Ok(1_450_000), Ok(530_000)] && ledger.next_day() == 3563
     );
+    Ok(())
+}
+
+// A layer takes all of the first point's segment away outside winter; the day is of season 1, so the second point gets all.
+#[test]
+fn a_day_by_its_own_season(rt: HostRuntime) -> Result<(), Fail> {
+    let second = Point {
+        segment: 1,
+        ..SECOND
+    };
+    let mut sheet = [Point::UNUSED; 2];
+    let mut ledger = two_points(&mut sheet, second)?;
+    let Ok(mut layer) = SeasonLayer::new(EvenProfile::new(764_445)?, 0) else {
+        return Err(Fail::new("segment 0"));
+    };
+    let mut numbers = [10_000_000; 1524];
+    numbers[381..].fill(0);
+    layer.fill(&numbers)?;
+    let day = measured(&mut ledger, [0, 0], 980_000, 0)?;
+    let mut uses = [7; 2];
+    let mut shares = [8; 2];
+    shared_out(
+        &mut ledger,
+        day,
+        &mut sheet,
+        &layer,
+        &Running,
+        &mut uses,
+        &mut shares,
+    )?;
+    assert!(rt; uses == [0, 38_222] && shares == [0, 980_000]);
+    assert!(rt; Seen::of(&ledger).account == [Ok(0), Ok(980_000)]);
     Ok(())
 }
