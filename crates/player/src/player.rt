@@ -1,5 +1,5 @@
 // What a journal has set up, and the playing of its calls.
-ghost use Rattle.std.specs.Prelude.{◌≡◌, false, IfOk, vec_len};
+ghost use Rattle.std.specs.Prelude.{◌≡◌, ◌≤◌, false, Ok, IfOk, IfErr, IsOk, vec_len};
 ghost use Rattle.ledger.specs.Accounts.{new_book};
 ghost use Rattle.ledger.specs.Days.{admit_book, point_book, open_book, enter_book, inflow_book};
 ghost use Rattle.player.specs.Playing.{Plays, of_day, of_slip};
@@ -284,7 +284,10 @@ impl Player {
 
     // The closing report. Slips that are still open are named and withdrawn, and a day that still runs is named and abandoned. Slips that
     // the ledger would not take back come back before anything else: they cannot be let go, so they are the outer error.
-    pub fn close(self, report: &mut Report) -> Result<Result<(), Trouble>, Unended> {
+    pub fn close(self, report: &mut Report) -> Result<Result<(), Trouble>, Unended>
+        ensures none { vec_len self.state.slips.open ≡ 0 → IsOk result }
+        ensures few { IfErr result (λ left. vec_len left.slips.open ≤ vec_len self.state.slips.open) }
+    {
         let named = tell_open_slips(&self.state.slips, report);
         let Player {
             heap: _,
@@ -312,7 +315,10 @@ impl Player {
     }
 
     // Withdraws every slip that is still open, and ends the running day.
-    pub fn end(self) -> Result<(), Unended> {
+    pub fn end(self) -> Result<(), Unended>
+        ensures none { vec_len self.state.slips.open ≡ 0 → result ≡ Ok tt }
+        ensures few { IfErr result (λ left. vec_len left.slips.open ≤ vec_len self.state.slips.open) }
+    {
         let Player {
             heap: _,
             state,

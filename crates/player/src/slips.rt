@@ -1,5 +1,5 @@
 // The slips of a journal's readings that are still open, so that a journal names them by their points.
-ghost use Rattle.std.specs.Prelude.{◌≡◌, ◌<◌, All, IfErr, IfSome, vec_len, vec_capacity, OnOk, OnSome};
+ghost use Rattle.std.specs.Prelude.{◌≡◌, ◌<◌, ◌≤◌, All, Ok, IfErr, IfSome, vec_len, vec_capacity, OnOk, OnSome};
 ghost use Rattle.std.specs.List.Sorted.{IsSearchInRange};
 ghost use Rattle.player.specs.Slips.{Made};
 
@@ -86,7 +86,10 @@ impl Slips {
     }
 
     // Withdraws every slip that is still open. The ledger refuses none of its own; a slip that it did refuse comes back, since none can be let go.
-    pub(crate) fn end(self, ledger: &Ledger, sheet: &mut [Point]) -> Result<(), Unended> {
+    pub(crate) fn end(self, ledger: &Ledger, sheet: &mut [Point]) -> Result<(), Unended>
+        ensures none { vec_len self.open ≡ 0 → result ≡ Ok tt }
+        ensures few { IfErr result (λ left. vec_len left.slips.open ≤ vec_len self.open) }
+    {
         let Slips { mut open } = self;
         while let Some(slip) = open.pop() {
             match ledger.withdraw(sheet, slip) {

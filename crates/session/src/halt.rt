@@ -35,6 +35,13 @@ impl From<AllocError> for Halt {
     }
 }
 
+// How the program ends: with what was asked for done, or after an error that was told.
+#[derive(Clone, Copy)]
+pub enum Ending {
+    Done,
+    Failed,
+}
+
 // Why the program ends with an error. A slip cannot be let go, so one that the ledger would not take back, which does not happen to a
 // ledger's own, is handed on to be ended elsewhere.
 pub enum Stop {

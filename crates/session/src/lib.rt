@@ -1,16 +1,19 @@
 // The program `station`: plays a journal of calls on a station's ledger, and prints what each was told.
 #![tactic(auto)]
 
+ghost use Rattle.std.specs.Prelude.{◌≤◌};
+ghost use Rattle.std.specs.Process.{exit_status};
+
 mod halt;
 mod help;
 mod session;
 
-use halt::Stop;
+use halt::{Ending, Stop};
 use help::{HELP, MAKE_ONE};
 use player::slips::Unended;
 use session::play;
 use std::io::{ErrorKind, Read, Write};
-use std::process::{ExitCode, Termination};
+use std::process::ExitCode;
 use std::{env, fs};
 
 // What the command line asks for.
@@ -68,36 +71,39 @@ fn read_journal(rt: &HostRuntime, path: Option<&str>) -> anyhow::Result<Option<V
     }
 }
 
-fn try_file(rt: &HostRuntime, path: Option<&str>, csv: bool) -> Result<ExitCode, Stop> {
+fn try_file(rt: &HostRuntime, path: Option<&str>, csv: bool) -> Result<Ending, Stop> {
     match read_journal(rt, path)? {
         Some(text) => play(rt, path, text.as_slice(), csv),
-        None => Ok(ExitCode::FAILURE),
+        None => Ok(Ending::Failed),
     }
 }
 
-fn answer(rt: &HostRuntime) -> Result<ExitCode, Stop> {
+fn answer(rt: &HostRuntime) -> Result<Ending, Stop> {
     match read_args(rt)? {
         Asked::Help => {
             rt.stdout().write_all(HELP.as_bytes())?;
-            Ok(ExitCode::SUCCESS)
+            Ok(Ending::Done)
         }
         Asked::Wrong => {
             eprintln!(rt;
                 "station: one journal, or none for standard input; `station --help` says more"
             )?;
-            Ok(ExitCode::FAILURE)
+            Ok(Ending::Failed)
         }
         Asked::Play { csv, path } => try_file(rt, path.as_deref(), csv),
     }
 }
 
-// How the program ends.
-fn ended(rt: &HostRuntime, done: Result<ExitCode, Stop>) -> ExitCode {
-    match done {
-        Ok(code) => code,
+// The status that the program ends with: 0 where it is done, 1 where it failed or where an error ended it, which is told here.
+fn status(rt: &HostRuntime, ending: Result<Ending, Stop>) -> ExitCode
+    ensures { exit_status result ≤ 1 }
+{
+    match ending {
+        Ok(Ending::Done) => ExitCode::SUCCESS,
+        Ok(Ending::Failed) => ExitCode::FAILURE,
         Err(Stop::Error(e)) => {
-            let told: anyhow::Result<()> = Err(e);
-            told.report(rt)
+            let _told = eprintln!(rt; "Error: {e:?}");
+            ExitCode::FAILURE
         }
         Err(Stop::Unended(Unended { slips })) => {
             let _ended = slips.end_elsewhere();
@@ -106,12 +112,16 @@ fn ended(rt: &HostRuntime, done: Result<ExitCode, Stop>) -> ExitCode {
     }
 }
 
-// Plays the journal of a file, or of standard input.
-pub fn play_file(rt: &HostRuntime, path: Option<&str>, csv: bool) -> ExitCode {
-    ended(rt, try_file(rt, path, csv))
+// Plays the journal of a file, or of standard input. Which of the two statuses it tells, and what is printed, is only compared.
+pub fn play_file(rt: &HostRuntime, path: Option<&str>, csv: bool) -> ExitCode
+    ensures { exit_status result ≤ 1 }
+{
+    status(rt, try_file(rt, path, csv))
 }
 
-// Does what the command line asks for.
-pub fn run(rt: &HostRuntime) -> ExitCode {
-    ended(rt, answer(rt))
+// Does what the command line asks for, and promises the same.
+pub fn run(rt: &HostRuntime) -> ExitCode
+    ensures { exit_status result ≤ 1 }
+{
+    status(rt, answer(rt))
 }

@@ -1,5 +1,5 @@
 // The lines of a journal, one after the other.
-use crate::halt::{Halt, Stop};
+use crate::halt::{Ending, Halt, Stop};
 use journal::call::{Call, parse};
 use journal::lines::{Lines, read_sheet};
 use journal::words::{split, uncommented};
@@ -12,7 +12,6 @@ use std::io::{ErrorKind, Write};
 use std::iter::Zip;
 use std::ops::RangeFrom;
 use std::path::Path;
-use std::process::ExitCode;
 
 // Lines and their numbers.
 type Numbered<'a> = Zip<RangeFrom<u64>, Lines<'a>>;
@@ -101,7 +100,7 @@ impl<'a> Session<'a> {
     }
 
     // Plays the lines behind the first call, and ends what they leave open.
-    fn play_on(&mut self, mut player: Player, mut lines: Numbered<'a>) -> Result<ExitCode, Stop> {
+    fn play_on(&mut self, mut player: Player, mut lines: Numbered<'a>) -> Result<Ending, Stop> {
         let played = match lines.try_for_each(|(line, text)| self.step(&mut player, line, text)) {
             Ok(()) => player.close(&mut self.report)?.map_err(Halt::Place),
             Err(halt) => {
@@ -113,12 +112,12 @@ impl<'a> Session<'a> {
     }
 
     // Prints what is left, and tells where the journal stopped, if it did.
-    fn end(&mut self, played: Result<(), Halt>) -> Result<ExitCode, Stop> {
+    fn end(&mut self, played: Result<(), Halt>) -> Result<Ending, Stop> {
         match self.flush().and(played) {
-            Ok(()) => Ok(ExitCode::SUCCESS),
+            Ok(()) => Ok(Ending::Done),
             Err(why) => {
                 self.complain(why)?;
-                Ok(ExitCode::FAILURE)
+                Ok(Ending::Failed)
             }
         }
     }
@@ -160,7 +159,7 @@ pub(crate) fn play<'a>(
     path: Option<&'a str>,
     text: &'a [u8],
     csv: bool,
-) -> Result<ExitCode, Stop> {
+) -> Result<Ending, Stop> {
     let heap = rt.alloc();
     let mut session = Session {
         rt,

@@ -1,9 +1,12 @@
-use Rattle.std.proofs.Common.{All, vec_len}
+use Rattle.std.proofs.Common.{◌≤◌, All, vec_len}
 use Rattle.player.specs.Slips.{Made}
 use Rattle.player.proofs.slips.Slips.end.Given as goal
 
 abbrev pub invariant-loop-slip : goal.invariant-loop-slip
-invariant-loop-slip l = All Made l.open.items
+invariant-loop-slip l = record {
+  made : All Made l.open.items;
+  few : vec_len l.open ≤ vec_len l.initial.open;
+}
 
 abbrev pub decreases-loop-slip : goal.decreases-loop-slip
 decreases-loop-slip l = vec_len l.open
