@@ -3,7 +3,7 @@ use Rattle.std.proofs.Common.{◌≡◌, ℕ, ◌+◌, List, Some, None, Err, Op
 use Rattle.refusals.specs.declared.Refusal.{Refusal}
 use Rattle.refusals.specs.declared.Refused.{Refused}
 use Rattle.ledger.specs.declared.book.Book.{Book}
-use Rattle.ledger.specs.declared.point.Point.{Point}
+use Rattle.rows.specs.declared.point.Point.{Point}
 use Rattle.ledger.specs.Grounds.{handed_back, unless}
 use Rattle.ledger.specs.Sharing.{shared_book}
 use Rattle.ledger.proofs.Grounds.{by_unless}

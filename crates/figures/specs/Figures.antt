@@ -4,8 +4,8 @@ use Rattle.shares.specs.Fair.{guarded}
 use Rattle.shares.specs.Rules.{running, largest}
 use Rattle.profiles.specs.Layers.{scaled}
 use Rattle.ledger.specs.Days.{loss_of, quantity_of}
-use Rattle.ledger.specs.Rows.{profile_use}
-use Rattle.ledger.specs.Readings.{used, correction_of, new_scale}
+use Rattle.rows.specs.Rows.{profile_use}
+use Rattle.rows.specs.Bookings.{used, correction_of, new_scale}
 use Rattle.charges.specs.Rule.{nomination_due, balance_due, offered_due}
 use Rattle.calendar.specs.Days.{day_of}
 

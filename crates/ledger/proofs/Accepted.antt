@@ -7,11 +7,12 @@ use Rattle.profiles.specs.Asked.{within}
 use Rattle.ledger.specs.declared.book.Book.{Book}
 use Rattle.ledger.specs.declared.day.OpenDay.{OpenDay}
 use Rattle.ledger.specs.declared.day.MeasuredDay.{MeasuredDay}
-use Rattle.ledger.specs.declared.point.Particulars.{Particulars}
-use Rattle.ledger.specs.declared.point.Point.{Point}
-use Rattle.ledger.specs.Limits.{max_traders, max_litres, max_rate, max_shared, max_opened, max_points, last_day}
+use Rattle.rows.specs.declared.point.Particulars.{Particulars}
+use Rattle.rows.specs.declared.point.Point.{Point}
+use Rattle.rows.specs.Limits.{max_traders, max_points}
+use Rattle.ledger.specs.Limits.{max_litres, max_rate, max_shared, max_opened, last_day}
 use Rattle.ledger.specs.Grounds.{unless}
-use Rattle.ledger.specs.Rows.{sheet_fits, particulars_fit, every, may_share, is_free, is_served}
+use Rattle.rows.specs.Rows.{sheet_fits, particulars_fit, every, may_share, is_free, is_served}
 use Rattle.ledger.specs.Accounts.{metered_sum}
 use Rattle.ledger.specs.Days.{admit_fault, point_fault, is_idle, open_fault, is_open, enter_fault, loss_of, inflow_fault, is_measured}
 use Rattle.ledger.specs.Sharing.{Tells, share_grounds, no_weight, share_fault}

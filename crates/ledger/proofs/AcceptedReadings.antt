@@ -2,11 +2,13 @@
 use Rattle.std.proofs.Common.{◌≡◌, ℕ, ◌<◌, ◌≤◌, true, false, not, eqb, ltb, leb, ◌≢◌, List, length, None}
 use Rattle.std.proofs.lemmas.Bool.{not-true, not-false, ltb-true, leb-true, leb-false, eqb-true, eqb-false, and_parts, or_parts}
 use Rattle.ledger.specs.declared.book.Book.{Book}
-use Rattle.ledger.specs.declared.point.Point.{Point}
+use Rattle.rows.specs.declared.point.Point.{Point}
 use Rattle.ledger.specs.declared.slip.Slip.{Slip}
-use Rattle.ledger.specs.Limits.{max_readings, max_points}
-use Rattle.ledger.specs.Rows.{row_at, sheet_fits, dial_fits, in_range}
-use Rattle.ledger.specs.Readings.{is_slip_of, may_book, not_bookable, read_fault, book_fault, hand_fault, withdraw_fault}
+use Rattle.rows.specs.Limits.{max_points}
+use Rattle.ledger.specs.Limits.{max_readings}
+use Rattle.rows.specs.Rows.{row_at, sheet_fits, dial_fits, in_range}
+use Rattle.rows.specs.Bookings.{is_slip_of, may_book}
+use Rattle.ledger.specs.Readings.{not_bookable, read_fault, book_fault, hand_fault, withdraw_fault}
 use Rattle.ledger.proofs.Grounds.{no_ground}
 
 -- the sheet fits, and the point is one of those admitted

@@ -3,12 +3,13 @@ use Rattle.std.proofs.Common.{◌≡◌, ℕ, List, set, ℤ, None, Ok, Option, 
 use Rattle.std.proofs.lemmas.Int.{to_z-of_z}
 use Rattle.refusals.specs.declared.Refusal.{Refusal}
 use Rattle.ledger.specs.declared.book.Book.{Book}
-use Rattle.ledger.specs.declared.point.Point.{Point}
+use Rattle.rows.specs.declared.point.Point.{Point}
 use Rattle.ledger.specs.declared.slip.Slip.{Slip}
 use Rattle.ledger.specs.Grounds.{handed_back, unless}
 use Rattle.ledger.specs.History.{Step}
-use Rattle.ledger.specs.Readings.{row_correction, booked_book, booked_row}
-use Rattle.ledger.specs.Rows.{row_at}
+use Rattle.rows.specs.Bookings.{row_correction, booked_row}
+use Rattle.ledger.specs.Readings.{booked_book}
+use Rattle.rows.specs.Rows.{row_at}
 
 -- owner: who has the point then, by its row; by: what was booked
 module _ (l : Book) (s : List Point) (slip : Slip) (fault : Option Refusal) (row : Point) (none : fault ≡ None) (is : row ≡ row_at s slip.point) where

@@ -4,12 +4,14 @@ use Rattle.std.proofs.lemmas.Int.{ints}
 use Rattle.std.proofs.lemmas.List.Sums.{sum_by-take-le, get_or-le-sum_by}
 use Rattle.profiles.specs.declared.factors.Factors.{Factors}
 use Rattle.ledger.specs.declared.book.Trader.{Trader}
-use Rattle.ledger.specs.declared.point.Point.{Point}
-use Rattle.ledger.specs.Accounts.{Near, Settling, account_at, metered_sum, credited, credited_to}
-use Rattle.ledger.specs.Limits.{max_litres, max_traders}
-use Rattle.ledger.specs.Rows.{Shareable, row_at, shared_row, shared_rows}
+use Rattle.rows.specs.declared.point.Point.{Point}
+use Rattle.rows.specs.Near.{Near}
+use Rattle.ledger.specs.Accounts.{Settling, account_at, metered_sum, credited, credited_to}
+use Rattle.rows.specs.Limits.{max_traders}
+use Rattle.ledger.specs.Limits.{max_litres}
+use Rattle.rows.specs.Rows.{Shareable, row_at, shared_row, shared_rows}
 use Rattle.ledger.specs.Sharing.{Creditable}
-use Rattle.ledger.proofs.Rows.{shared_rows_later, shared_rows_more}
+use Rattle.rows.proofs.Rows.{shared_rows_later, shared_rows_more}
 use Rattle.ledger.proofs.Traders.{credited_to_more, length_credited_to, metered_credited_to, near_credited_to, metered_le}
 
 -- no account passes what an account can hold

@@ -12,10 +12,12 @@ use Rattle.ledger.specs.declared.day.OpenDay.{OpenDay}
 use Rattle.ledger.specs.declared.day.MeasuredDay.{MeasuredDay}
 use Rattle.ledger.specs.declared.day.Phase.{Phase}
 use Rattle.ledger.specs.declared.day.Phase.TheVariants.{Idle, Open, Measured}
-use Rattle.ledger.specs.declared.point.Particulars.{Particulars}
-use Rattle.ledger.specs.declared.point.Point.{Point}
-use Rattle.ledger.specs.Limits.{max_traders, max_litres, max_shared, max_opened, last_day}
-use Rattle.ledger.specs.Accounts.{no_trader, account_at, metered_at, metered_sum, new_book, unmetered, settled, credited_to, Near, reach, day_holds, pending, Sound, Settling}
+use Rattle.rows.specs.declared.point.Particulars.{Particulars}
+use Rattle.rows.specs.declared.point.Point.{Point}
+use Rattle.rows.specs.Limits.{max_traders}
+use Rattle.ledger.specs.Limits.{max_litres, max_shared, max_opened, last_day}
+use Rattle.rows.specs.Near.{Near}
+use Rattle.ledger.specs.Accounts.{no_trader, account_at, metered_at, metered_sum, new_book, unmetered, settled, credited_to, reach, day_holds, pending, Sound, Settling}
 use Rattle.ledger.specs.Days.{admit_fault, admit_book, point_fault, point_book, open_fault, open_book, is_open, enter_fault, enter_book, loss_of, quantity_of, inflow_fault, inflow_book, is_measured, ended, abandon_open_fault, abandon_open_book, abandon_measured_fault, abandon_measured_book}
 use Rattle.ledger.specs.Sharing.{Tells, Rule, day_quantity, day_loss, day_uses, day_shares, share_fault, shared_book, share_book}
 use Rattle.ledger.specs.History.{LawfulRule}

@@ -4,14 +4,16 @@ use Rattle.std.proofs.lemmas.Int.{ints, to_z-of_z}
 use Rattle.std.proofs.lemmas.List.{length-set}
 use Rattle.ledger.specs.declared.book.Book.{Book}
 use Rattle.ledger.specs.declared.book.Trader.{Trader}
-use Rattle.ledger.specs.declared.point.Point.{Point}
+use Rattle.rows.specs.declared.point.Point.{Point}
 use Rattle.ledger.specs.declared.slip.Slip.{Slip}
-use Rattle.ledger.specs.Accounts.{account_at, metered_at, credited, Near, reach, day_holds, Sound}
-use Rattle.ledger.specs.Limits.{max_correction}
-use Rattle.ledger.specs.Readings.{row_correction, one_more_booking, read_fault, read_book, booked_book, book_fault, book_book, hand_fault, hand_book}
-use Rattle.ledger.specs.Rows.{row_at, in_range}
+use Rattle.rows.specs.Near.{Near}
+use Rattle.ledger.specs.Accounts.{account_at, metered_at, credited, reach, day_holds, Sound}
+use Rattle.rows.specs.Limits.{max_correction}
+use Rattle.rows.specs.Bookings.{row_correction}
+use Rattle.ledger.specs.Readings.{one_more_booking, read_fault, read_book, booked_book, book_fault, book_book, hand_fault, hand_book}
+use Rattle.rows.specs.Rows.{row_at, in_range}
 use Rattle.ledger.proofs.AcceptedReadings.{reads, books, hands_over}
-use Rattle.ledger.proofs.Corrections.{correction_near}
+use Rattle.rows.proofs.Corrections.{correction_near}
 use Rattle.ledger.proofs.Grounds.{by_unless}
 use Rattle.ledger.proofs.Traders.{near_more, near_add, near_sub, at_set, metered_sum-set}
 

@@ -4,12 +4,9 @@ pub mod Withdrawals
 pub mod Accepted
 pub mod AcceptedReadings
 pub mod Booking
-pub mod Rows
-pub mod Ranges
 pub mod Traders
 pub mod Places
 pub mod Totals
-pub mod Corrections
 pub mod Keep
 pub mod KeepReadings
 pub mod Loops

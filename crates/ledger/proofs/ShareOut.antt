@@ -17,19 +17,20 @@ use Rattle.ledger.specs.declared.day.Phase.{Phase}
 use Rattle.ledger.specs.declared.day.Phase.TheVariants.{Idle, Open, Measured}
 use Rattle.refusals.specs.declared.Refused.{Refused}
 use Rattle.ledger.specs.declared.day.SharedOut.{SharedOut}
-use Rattle.ledger.specs.declared.point.Point.{Point}
+use Rattle.rows.specs.declared.point.Point.{Point}
 use Rattle.ledger.specs.Accounts.{Sound, Settling, credited_to, credited, settled, day_holds, pending, reach}
 use Rattle.ledger.specs.Days.{is_measured}
 use Rattle.ledger.specs.Grounds.{first_ground, handed_back, unless}
 use Rattle.ledger.specs.History.{LawfulProfile, LawfulRule, Means, Goes, Shared, next}
-use Rattle.ledger.specs.Limits.{max_traders, max_litres}
-use Rattle.ledger.specs.Rows.{Shareable, row_at, no_row, sheet_fits, every, may_share, is_free, is_served, factors_at, profile_use, profile_uses, shared_row, shared_rows}
+use Rattle.rows.specs.Limits.{max_traders}
+use Rattle.ledger.specs.Limits.{max_litres}
+use Rattle.rows.specs.Rows.{Shareable, row_at, no_row, sheet_fits, every, may_share, is_free, is_served, factors_at, profile_use, profile_uses, shared_row, shared_rows}
 use Rattle.ledger.specs.Sharing.{Tells, Rule, Weighable, Creditable, told_on, day_quantity, day_loss, day_uses, day_shares, share_grounds, no_weight, share_fault, share_told, share_answer, shared_book, share_book, share_sheet, share_uses, share_shares, one_more_shared}
 use Rattle.ledger.proofs.Accepted.{sharable}
 use Rattle.ledger.proofs.Crediting.{settling}
 use Rattle.ledger.proofs.Keep.{shares_within, shared_sound}
-use Rattle.ledger.proofs.Ranges.{shareable}
-use Rattle.ledger.proofs.Rows.{every_at, tested, shared_rows_part}
+use Rattle.rows.proofs.Ranges.{shareable}
+use Rattle.rows.proofs.Rows.{every_at, tested, shared_rows_part}
 use Rattle.ledger.proofs.Traders.{near_more, credited_to_part}
 
 -- lists by their first places

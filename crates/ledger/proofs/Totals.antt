@@ -3,9 +3,9 @@ use Rattle.std.proofs.Common.{◌≡◌, ℕ, zero, suc, ◌<◌, ◌≤◌, Lis
 use Rattle.std.proofs.lemmas.Int.{ints}
 use Rattle.std.proofs.lemmas.List.Sums.{sum_by-cons}
 use Rattle.ledger.specs.declared.book.Trader.{Trader}
-use Rattle.ledger.specs.declared.point.Point.{Point}
+use Rattle.rows.specs.declared.point.Point.{Point}
 use Rattle.ledger.specs.Accounts.{no_trader, account_at, metered_at, metered_sum, all_accounts, credited, credited_to, entered, settled, unmetered}
-use Rattle.ledger.specs.Rows.{row_at}
+use Rattle.rows.specs.Rows.{row_at}
 use Rattle.ledger.proofs.Traders.{sum-take-suc, length_credited_to}
 
 pub total_set : (ts : List Trader) (j : ℕ) (x : Trader) → j < length ts → all_accounts (set ts j x) +ℤ account_at ts j ≡ all_accounts ts +ℤ x.account

@@ -5,9 +5,10 @@ use Rattle.std.proofs.lemmas.List.Sums.{sum_by-cons, sum_by-set, sum_by_more, ge
 use Rattle.std.proofs.lemmas.Bool.{cases_lt}
 use Rattle.std.proofs.lemmas.Int.{ints}
 use Rattle.ledger.specs.declared.book.Trader.{Trader}
-use Rattle.ledger.specs.declared.point.Point.{Point}
-use Rattle.ledger.specs.Accounts.{no_trader, account_at, metered_at, metered_sum, credited, credited_to, entered, settled, unmetered, Near}
-use Rattle.ledger.specs.Rows.{no_row, row_at}
+use Rattle.rows.specs.declared.point.Point.{Point}
+use Rattle.rows.specs.Near.{Near}
+use Rattle.ledger.specs.Accounts.{no_trader, account_at, metered_at, metered_sum, credited, credited_to, entered, settled, unmetered}
+use Rattle.rows.specs.Rows.{no_row, row_at}
 use Rattle.ledger.proofs.Places.{by_eqb, set_at}
 
 -- Integers near nought.

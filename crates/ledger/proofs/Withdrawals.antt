@@ -3,11 +3,12 @@ use Rattle.std.proofs.Common.{◌≡◌, ℕ, ◌<◌, ◌≤◌, true, ◌≢�
 use lib.ListN.{length-replicate, get_or-replicate}
 use Rattle.std.proofs.lemmas.Bool.{and_from, cond-false, not_from_true, not_from_false, le-leb, lt-leb, eq-eqb, ne_eqb}
 use Rattle.ledger.specs.declared.book.Book.{Book}
-use Rattle.ledger.specs.declared.point.Point.{Point}
+use Rattle.rows.specs.declared.point.Point.{Point}
 use Rattle.ledger.specs.declared.slip.Slip.{Slip}
-use Rattle.ledger.specs.Limits.{max_points}
-use Rattle.ledger.specs.Readings.{is_slip_of, withdraw_fault}
-use Rattle.ledger.specs.Rows.{no_row}
+use Rattle.rows.specs.Limits.{max_points}
+use Rattle.rows.specs.Bookings.{is_slip_of}
+use Rattle.ledger.specs.Readings.{withdraw_fault}
+use Rattle.rows.specs.Rows.{no_row}
 
 is_slip : (p : Point) (n : ℕ) → 0 < n → p.slip ≡ n → is_slip_of p n ≡ true
 is_slip p n some e =

@@ -5,9 +5,11 @@ use Rattle.ledger.specs.declared.book.Counts.{Counts}
 use Rattle.ledger.specs.declared.book.Trader.{Trader}
 use Rattle.ledger.specs.declared.day.Phase.{Phase}
 use Rattle.ledger.specs.declared.day.Phase.TheVariants.{Idle, Open, Measured}
-use Rattle.ledger.specs.declared.point.Point.{Point}
-use Rattle.ledger.specs.Limits.{max_traders, max_points, max_litres, max_shared, max_opened, max_readings, last_day, max_correction}
-use Rattle.ledger.specs.Rows.{row_at}
+use Rattle.rows.specs.declared.point.Point.{Point}
+use Rattle.rows.specs.Limits.{max_traders, max_points, max_correction}
+use Rattle.ledger.specs.Limits.{max_litres, max_shared, max_opened, max_readings, last_day}
+use Rattle.rows.specs.Rows.{row_at}
+use Rattle.rows.specs.Near.{Near}
 
 abbrev pub no_trader : Trader
 no_trader = record { account = pos 0; metered = 0 }
@@ -71,11 +73,6 @@ with_counts l c = record l { counts = c }
 
 abbrev pub with_phase : Book → Phase → Book
 with_phase l p = record l { phase = p }
-
--- an integer at most b from nought
-pub record Near (z : ℤ) (b : ℕ) : Type 0 where
-  pub high : z ≤ℤ pos b
-  pub low : pos 0 ≤ℤ (z +ℤ pos b)
 
 -- how far an account can have come: a day moves it by max_litres at the most, a booking by max_correction
 abbrev pub reach : Counts → ℕ

@@ -11,12 +11,13 @@ use Rattle.ledger.specs.declared.day.Phase.{Phase}
 use Rattle.ledger.specs.declared.day.Phase.TheVariants.{Idle, Open, Measured}
 use Rattle.refusals.specs.declared.Refused.{Refused}
 use Rattle.profiles.specs.declared.weather.Weather.{Weather as Sky}
-use Rattle.ledger.specs.declared.point.Particulars.{Particulars as Given}
-use Rattle.ledger.specs.declared.point.Point.{Point}
+use Rattle.rows.specs.declared.point.Particulars.{Particulars as Given}
+use Rattle.rows.specs.declared.point.Point.{Point}
 use Rattle.ledger.specs.Accounts.{account_at, metered_at, metered_sum, entered, unmetered, with_traders, with_counts, with_phase}
 use Rattle.ledger.specs.Grounds.{first_ground, answered, handed_back, unless}
-use Rattle.ledger.specs.Limits.{max_traders, max_litres, max_rate, max_shared, max_opened, last_day}
-use Rattle.ledger.specs.Rows.{sheet_fits, particulars_fit, admitted_row, every, summable, open_sums}
+use Rattle.rows.specs.Limits.{max_traders}
+use Rattle.ledger.specs.Limits.{max_litres, max_rate, max_shared, max_opened, last_day}
+use Rattle.rows.specs.Rows.{sheet_fits, particulars_fit, admitted_row, every, summable, open_sums}
 
 -- Admitting a trader.
 

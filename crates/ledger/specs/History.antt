@@ -8,8 +8,8 @@ use Rattle.ledger.specs.declared.day.OpenDay.{OpenDay}
 use Rattle.ledger.specs.declared.day.MeasuredDay.{MeasuredDay}
 use Rattle.refusals.specs.declared.Refused.{Refused}
 use Rattle.ledger.specs.declared.day.SharedOut.{SharedOut}
-use Rattle.ledger.specs.declared.point.Particulars.{Particulars}
-use Rattle.ledger.specs.declared.point.Point.{Point}
+use Rattle.rows.specs.declared.point.Particulars.{Particulars}
+use Rattle.rows.specs.declared.point.Point.{Point}
 use Rattle.ledger.specs.declared.slip.Slip.{Slip}
 use Rattle.ledger.specs.Accounts.{new_book}
 use Rattle.ledger.specs.Days.{admit_answer, admit_book, point_answer, point_book, point_sheet, open_answer, open_book, enter_answer, enter_book, inflow_answer, inflow_book, abandon_open_answer, abandon_open_book, abandon_measured_answer, abandon_measured_book}

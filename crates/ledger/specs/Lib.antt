@@ -1,5 +1,4 @@
 pub mod Limits
-pub mod Rows
 pub mod Accounts
 pub mod Grounds
 pub mod Days

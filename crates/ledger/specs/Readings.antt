@@ -1,69 +1,21 @@
 -- Readings: a slip is opened, and ended by a booking, a hand-over or a withdrawal.
-use Rattle.std.specs.Prelude.{ℕ, ◌+◌, ◌-◌, ◌*◌, ◌/◌, ◌^◌, min, Bool, cond, not, ◌&&◌, ◌||◌, List, [], ◌∷◌, ℤ, pos, ◌-ℤ◌, Option, Result, ◌==◌, nat_le, nat_lt, slice_set}
+use Rattle.std.specs.Prelude.{ℕ, ◌+◌, Bool, not, ◌||◌, List, [], ◌∷◌, ℤ, ◌-ℤ◌, Option, Result, ◌==◌, nat_le, slice_set}
 use Rattle.refusals.specs.declared.Refusal.{Refusal}
 use Rattle.refusals.specs.declared.Refusal.TheVariants.{PointSheetLength, NoSuchTrader, NoSuchPoint, Particulars, ForeignSheet, NotOpenSlip, SlipOpen, NoMoreReadings, SameTrader}
-use Rattle.profiles.specs.Laws.{whole}
 use Rattle.ledger.specs.declared.book.Book.{Book}
 use Rattle.ledger.specs.declared.book.Counts.{Counts}
 use Rattle.refusals.specs.declared.Refused.{Refused}
-use Rattle.ledger.specs.declared.point.Point.{Point}
+use Rattle.rows.specs.declared.point.Point.{Point}
 use Rattle.ledger.specs.declared.slip.Slip.{Slip}
 use Rattle.ledger.specs.Accounts.{credited, with_counts}
 use Rattle.ledger.specs.Grounds.{first_ground, answered, handed_back, unless}
-use Rattle.ledger.specs.Limits.{max_readings, max_scale}
-use Rattle.ledger.specs.Rows.{row_at, sheet_fits, dial_fits, in_range}
+use Rattle.ledger.specs.Limits.{max_readings}
+use Rattle.rows.specs.Rows.{row_at, sheet_fits, dial_fits, in_range}
+use Rattle.rows.specs.Bookings.{slipped, row_correction, booked_row, is_slip_of, may_book}
 
--- The trade's rules.
-
--- what a dial of some digits has turned between two readings: it starts again at nought after 10 to the power of digits
-abbrev pub turned : ℕ → ℕ → ℕ → ℕ
-turned digits old new = cond (nat_lt new old) (new + 10 ^ digits - old) (new - old)
-
--- the litres used between two readings
-abbrev pub used : ℕ → ℕ → ℕ → ℕ → ℕ
-used digits litres old new = turned digits old new * litres
-
--- what a booking moves: the consumption read less the shares since the last booking
-abbrev pub correction_of : ℕ → ℕ → ℤ
-correction_of consumption open_sum = pos consumption -ℤ pos open_sum
-
--- the scale factor after a booking: the consumption by the multipliers since the last one; it stays where there are none
-abbrev pub new_scale : ℕ → ℕ → ℕ → ℕ
-new_scale scale consumption period = cond (nat_lt 0 period) (min max_scale (consumption * whole / period)) scale
-
--- Rows.
-
--- a row with this slip and kept reading
-abbrev pub slipped : Point → ℕ → ℕ → Point
-slipped p slip kept = record p { slip = slip; kept_reading = kept }
-
--- the litres used since the last booking, by the reading that the row keeps
-abbrev pub row_use : Point → ℕ
-row_use p = used p.digits p.litres_per_unit p.reading p.kept_reading
-
-abbrev pub row_correction : Point → ℤ
-row_correction p = correction_of (row_use p) p.open_sum
-
--- a row after its kept reading was booked, and the trader who has it then
-abbrev pub booked_row : Point → ℕ → Point
-booked_row p trader =
-    record p {
-      trader = trader;
-      reading = p.kept_reading;
-      scale_factor = new_scale p.scale_factor (row_use p) p.period_sum;
-      open_sum = 0;
-      period_sum = 0;
-      slip = 0;
-      kept_reading = 0;
-    }
-
--- this number is the row's open slip
-abbrev pub is_slip_of : Point → ℕ → Bool
-is_slip_of p number = not (p.slip == 0) && p.slip == number
-
--- a row that can be booked: in its ranges, of an admitted trader
-abbrev pub may_book : ℕ → Point → Bool
-may_book traders p = in_range p && nat_lt p.trader traders
+-- why there is no row of a point to be had: the sheet does not fit the n points admitted, or the point is none of them
+abbrev pub row_fault : ℕ → List Point → ℕ → Option Refusal
+row_fault n s k = first_ground ((not (sheet_fits n s), PointSheetLength) ∷ (nat_le n k, NoSuchPoint) ∷ [])
 
 -- Reading a point.
 

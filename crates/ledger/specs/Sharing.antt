@@ -11,12 +11,14 @@ use Rattle.ledger.specs.declared.day.Phase.{Phase}
 use Rattle.ledger.specs.declared.day.Phase.TheVariants.{Idle, Open, Measured}
 use Rattle.refusals.specs.declared.Refused.{Refused}
 use Rattle.ledger.specs.declared.day.SharedOut.{SharedOut}
-use Rattle.ledger.specs.declared.point.Point.{Point}
-use Rattle.ledger.specs.Accounts.{Near, account_at, credited_to, settled}
+use Rattle.rows.specs.declared.point.Point.{Point}
+use Rattle.rows.specs.Near.{Near}
+use Rattle.ledger.specs.Accounts.{account_at, credited_to, settled}
 use Rattle.ledger.specs.Days.{is_measured, sky_in}
-use Rattle.ledger.specs.Limits.{max_traders, max_litres, max_points}
+use Rattle.rows.specs.Limits.{max_traders, max_points}
+use Rattle.ledger.specs.Limits.{max_litres}
 use Rattle.ledger.specs.Grounds.{first_ground, handed_back, unless}
-use Rattle.ledger.specs.Rows.{Shareable, row_at, sheet_fits, every, may_share, is_free, is_served, profile_uses, shared_rows}
+use Rattle.rows.specs.Rows.{Shareable, row_at, sheet_fits, every, may_share, is_free, is_served, profile_uses, shared_rows}
 
 -- what a profile means: for a segment, a temperature and a season its two factors
 abbrev pub Tells : Type 0

@@ -2,16 +2,17 @@
 // No call asks anything of its caller: bad input is refused by number and changes nothing.
 ghost use Rattle.std.specs.Prelude.{◌≡◌, ℕ, ◌+◌, ◌*◌, ◌≤◌, true, false, List, [], length, take, slice_index_or, MatchResult};
 ghost use Rattle.refusals.specs.declared.Refusal.TheVariants.{PointSheetLength};
-ghost use Rattle.ledger.specs.Accounts.{new_book, no_trader, Near, Sound, all_accounts};
+ghost use Rattle.rows.specs.Near.{Near};
+ghost use Rattle.ledger.specs.Accounts.{new_book, no_trader, Sound, all_accounts};
 ghost use Rattle.ledger.specs.Days.{trader_fault, account_answer, metered_answer};
 ghost use Rattle.ledger.specs.Grounds.{answered};
-ghost use Rattle.ledger.specs.Rows.{sheet_fits};
+ghost use Rattle.rows.specs.Rows.{sheet_fits};
 ghost use Rattle.ledger.specs.History.{Leads};
-ghost use Rattle.ledger.specs.declared.point.Point.{Point as Row};
+ghost use Rattle.rows.specs.declared.point.Point.{Point as Row};
 
 use crate::book::{Book, Counts, Trader};
-use crate::limits::MAX_POINTS;
-use crate::point::Point;
+use rows::MAX_POINTS;
+use rows::Point;
 use refusals::Refusal;
 
 mod admit;

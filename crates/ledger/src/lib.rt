@@ -7,13 +7,12 @@ mod day;
 mod ledger;
 mod limits;
 mod measured;
-mod point;
 mod slip;
 
 pub use book::Counts;
 pub use day::{MeasuredDay, OpenDay, SharedOut};
 pub use ledger::Ledger;
-pub use limits::{MAX_LITRES, MAX_POINTS, MAX_RATE};
-pub use point::{Particulars, Point};
+pub use limits::{MAX_LITRES, MAX_RATE};
+pub use rows::{MAX_POINTS, Particulars, Point};
 pub use refusals::Refused;
 pub use slip::Slip;

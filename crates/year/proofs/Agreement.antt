@@ -4,12 +4,12 @@ use Rattle.ledger.specs.declared.book.Book.{Book}
 use Rattle.ledger.specs.declared.day.MeasuredDay.{MeasuredDay}
 use Rattle.ledger.specs.declared.day.OpenDay.{OpenDay}
 use Rattle.ledger.specs.declared.day.Phase.TheVariants.{Open, Measured}
-use Rattle.ledger.specs.declared.point.Particulars.{Particulars}
-use Rattle.ledger.specs.declared.point.Point.{Point}
+use Rattle.rows.specs.declared.point.Particulars.{Particulars}
+use Rattle.rows.specs.declared.point.Point.{Point}
 use Rattle.ledger.specs.Accounts.{new_book, metered_sum, with_traders, with_counts, with_phase, entered, Sound}
 use Rattle.ledger.specs.Days.{one_more_trader, admit_fault, admit_book, one_more_point, point_fault, point_answer, point_book, point_sheet, one_more_opened, open_fault, open_answer, open_book, sky_of, enter_fault, enter_answer, enter_book, sky_in, loss_of, quantity_of, inflow_fault, inflow_answer, inflow_book, ended, abandon_open_fault, abandon_open_book, abandon_measured_fault, abandon_measured_book}
 use Rattle.ledger.specs.Grounds.{answered, handed_back, unless}
-use Rattle.ledger.specs.Rows.{admitted_row}
+use Rattle.rows.specs.Rows.{admitted_row}
 use Rattle.ledger.proofs.Accepted.{point_fits, day_opens, enters, takes_inflow}
 use Rattle.ledger.proofs.Grounds.{by_option, by_unless}
 use Rattle.year.specs.Settlements.{Day, Settlement, joined, accepted, opening, with_entry, with_inflow}

@@ -1,8 +1,8 @@
 -- Each point's shares and corrections are the consumption of its booked readings and its shares since the last of them.
 use Rattle.std.proofs.Common.{◌≡◌, ℕ, ◌+◌, cond, List, [], ◌∷◌, get_or, ℤ, pos, ◌+ℤ◌, refl, ap, arith}
 use Rattle.std.proofs.lemmas.Int.{ints}
-use Rattle.ledger.specs.declared.point.Particulars.{Particulars}
-use Rattle.ledger.specs.Readings.{correction_of}
+use Rattle.rows.specs.declared.point.Particulars.{Particulars}
+use Rattle.rows.specs.Bookings.{correction_of}
 use Rattle.ledger.specs.Sharing.{Tells}
 use Rattle.ledger.proofs.Places.{by_eqb}
 use Rattle.year.specs.Settlements.{Day, Settlement, joined, day_shared, booked}

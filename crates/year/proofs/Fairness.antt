@@ -10,8 +10,8 @@ use Rattle.std.proofs.lemmas.Bool.{lt-ltb, le-ltb, le-leb, eq-eqb, ltb-false, eq
 use Rattle.profiles.specs.declared.factors.Factors.{Factors}
 use Rattle.shares.specs.Fair.{fair, max_quantity, max_weights, max_weight}
 use Rattle.shares.specs.Fairness.{weightless}
-use Rattle.ledger.specs.declared.point.Point.{Point}
-use Rattle.ledger.specs.Rows.{row_at, no_row, profile_use, profile_uses}
+use Rattle.rows.specs.declared.point.Point.{Point}
+use Rattle.rows.specs.Rows.{row_at, no_row, profile_use, profile_uses}
 use Rattle.ledger.specs.Sharing.{Tells, Rule}
 use Rattle.ledger.specs.History.{LawfulProfile, LawfulRule}
 use Rattle.ledger.proofs.Keep.{shares_within}

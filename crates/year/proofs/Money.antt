@@ -3,11 +3,11 @@ use Rattle.std.proofs.Common.{◌≡◌, ℕ, zero, suc, ◌+◌, ◌<◌, ◌�
 use Rattle.std.proofs.lemmas.List.{take_all}
 use Rattle.std.proofs.lemmas.Int.{ints}
 use Rattle.ledger.specs.declared.book.Trader.{Trader}
-use Rattle.ledger.specs.declared.point.Particulars.{Particulars}
-use Rattle.ledger.specs.declared.point.Point.{Point}
-use Rattle.ledger.specs.Limits.{max_traders}
+use Rattle.rows.specs.declared.point.Particulars.{Particulars}
+use Rattle.rows.specs.declared.point.Point.{Point}
+use Rattle.rows.specs.Limits.{max_traders}
 use Rattle.ledger.specs.Accounts.{no_trader, account_at, metered_at, metered_sum, all_accounts, credited, credited_to, entered, settled, unmetered}
-use Rattle.ledger.specs.Rows.{row_at}
+use Rattle.rows.specs.Rows.{row_at}
 use Rattle.ledger.specs.Sharing.{Tells}
 use Rattle.ledger.proofs.Places.{by_eqb, set_at}
 use Rattle.ledger.proofs.Traders.{new_at, account_entered, account_unmetered, account_settled, length_credited_to, metered_credited_to, metered_sum_credited_to}

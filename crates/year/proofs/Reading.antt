@@ -2,12 +2,13 @@
 use Rattle.std.proofs.Common.{ℕ, ◌+◌, ◌<◌, cond, ◌&&◌, eqb, List, ◌∷◌, set, is_ok, sym, refl, subst, arith}
 use Rattle.std.proofs.lemmas.Bool.{eq-eqb, ne_eqb, cond-true, cond-false}
 use Rattle.ledger.specs.declared.book.Book.{Book}
-use Rattle.ledger.specs.declared.point.Point.{Point}
+use Rattle.rows.specs.declared.point.Point.{Point}
 use Rattle.ledger.specs.declared.slip.Slip.{Slip}
 use Rattle.ledger.specs.Accounts.{with_counts, credited, Sound}
 use Rattle.ledger.specs.Grounds.{answered, handed_back, unless}
-use Rattle.ledger.specs.Readings.{slipped, row_correction, booked_row, one_more_reading, read_fault, read_answer, read_book, read_sheet, booked_book, book_fault, book_answer, book_book, book_sheet, hand_fault, hand_answer, hand_book, hand_sheet, withdraw_fault, withdraw_sheet}
-use Rattle.ledger.specs.Rows.{row_at}
+use Rattle.rows.specs.Bookings.{slipped, row_correction, booked_row}
+use Rattle.ledger.specs.Readings.{one_more_reading, read_fault, read_answer, read_book, read_sheet, booked_book, book_fault, book_answer, book_book, book_sheet, hand_fault, hand_answer, hand_book, hand_sheet, withdraw_fault, withdraw_sheet}
+use Rattle.rows.specs.Rows.{row_at}
 use Rattle.ledger.proofs.AcceptedReadings.{Books, reads, books, hands_over, withdraws}
 use Rattle.ledger.proofs.Grounds.{by_option, by_unless}
 use Rattle.ledger.proofs.Traders.{metered_set, metered_sum-set}

@@ -2,13 +2,13 @@
 use Rattle.std.proofs.Common.{◌≡◌, ℕ, ◌+◌, ◌*◌, ◌^◌, ◌<◌, ◌≤◌, Bool, true, false, eqb, ltb, leb, ◌≢◌, List, [], ◌∷◌, get_or, ℤ, sym, refl, ap, ◌∙◌, arith}
 use native.Mathlib.Nat.{one-le-pow}
 use Rattle.std.proofs.lemmas.Bool.{lt-ltb, le-ltb, le-leb, eq-eqb, ne_eqb, and_from, cond-true, cond-false, cond_both}
-use Rattle.ledger.specs.declared.point.Particulars.{Particulars}
-use Rattle.ledger.specs.declared.point.Point.{Point}
-use Rattle.ledger.specs.Limits.{max_traders, max_scale, max_open_sum, full_open_sum}
-use Rattle.ledger.specs.Readings.{used, correction_of, new_scale, slipped, row_use, row_correction, booked_row, may_book}
-use Rattle.ledger.specs.Rows.{dial_fits, particulars_fit, in_range, may_share, admitted_row, shared_row}
+use Rattle.rows.specs.declared.point.Particulars.{Particulars}
+use Rattle.rows.specs.declared.point.Point.{Point}
+use Rattle.rows.specs.Limits.{max_traders, max_scale, max_open_sum, full_open_sum}
+use Rattle.rows.specs.Bookings.{used, correction_of, new_scale, slipped, row_use, row_correction, booked_row, may_book}
+use Rattle.rows.specs.Rows.{dial_fits, particulars_fit, in_range, may_share, admitted_row, shared_row}
 use Rattle.ledger.specs.Sharing.{Tells}
-use Rattle.ledger.proofs.Corrections.{Fitting, fitting, new_scale_small}
+use Rattle.rows.proofs.Corrections.{Fitting, fitting, new_scale_small}
 use Rattle.year.specs.Settlements.{Day, Settlement, joined, day_shared, booked, points_in, trader_of}
 use Rattle.year.specs.Quantities.{given_for, told_for, shares_since, period_of, reading_of, use_to, scale_of}
 use Rattle.year.specs.Law.{RowAgrees}

@@ -5,12 +5,12 @@ use Rattle.std.proofs.lemmas.List.{length-map, length-take, take_at}
 use Rattle.shares.specs.Fair.{max_weight}
 use Rattle.ledger.specs.declared.book.Book.{Book}
 use Rattle.ledger.specs.declared.day.MeasuredDay.{MeasuredDay}
-use Rattle.ledger.specs.declared.point.Point.{Point}
+use Rattle.rows.specs.declared.point.Point.{Point}
 use Rattle.ledger.specs.Accounts.{Sound}
 use Rattle.ledger.specs.Days.{sky_in}
 use Rattle.ledger.specs.Grounds.{handed_back, unless}
 use Rattle.ledger.specs.History.{LawfulProfile, LawfulRule}
-use Rattle.ledger.specs.Rows.{row_at, shared_rows}
+use Rattle.rows.specs.Rows.{row_at, shared_rows}
 use Rattle.ledger.specs.Sharing.{Tells, Rule, told_on, day_quantity, day_loss, day_uses, day_shares, no_weight, share_fault, share_told, share_answer, shared_book, share_book, share_sheet, share_shares}
 use Rattle.ledger.proofs.Accepted.{shares_out}
 use Rattle.ledger.proofs.Grounds.{by_option}

@@ -3,13 +3,13 @@ use Rattle.std.proofs.Common.{◌≡◌, ℕ, ◌+◌, ◌<◌, ◌≤◌, true,
 use Rattle.std.proofs.lemmas.List.{length-set, get_or-set_same, get_or-set_other, get_or_past}
 use Rattle.std.proofs.lemmas.Bool.{cases_eq, cond_both}
 use Rattle.profiles.specs.declared.factors.Factors.{Factors}
-use Rattle.ledger.specs.declared.point.Particulars.{Particulars}
-use Rattle.ledger.specs.declared.point.Point.{Point}
-use Rattle.ledger.specs.Limits.{max_traders}
-use Rattle.ledger.specs.Readings.{slipped, booked_row, may_book}
-use Rattle.ledger.specs.Rows.{row_at, no_row, dial_fits, may_share, every, admitted_row, shared_rows}
+use Rattle.rows.specs.declared.point.Particulars.{Particulars}
+use Rattle.rows.specs.declared.point.Point.{Point}
+use Rattle.rows.specs.Limits.{max_traders}
+use Rattle.rows.specs.Bookings.{slipped, booked_row, may_book}
+use Rattle.rows.specs.Rows.{row_at, no_row, dial_fits, may_share, every, admitted_row, shared_rows}
 use Rattle.ledger.specs.Sharing.{Tells}
-use Rattle.ledger.proofs.Rows.{every_from, length_shared_rows, row_shared_rows}
+use Rattle.rows.proofs.Rows.{every_from, length_shared_rows, row_shared_rows}
 use Rattle.year.specs.Settlements.{Day, Settlement, joined, day_shared, booked, points_in}
 use Rattle.year.specs.Quantities.{told_for, shares_since}
 use Rattle.year.specs.Law.{RowAgrees}

@@ -4,7 +4,7 @@ use Rattle.std.proofs.lemmas.Bool.{true≢false}
 use Rattle.ledger.specs.declared.book.Book.{Book}
 use Rattle.ledger.specs.declared.day.Phase.{Phase}
 use Rattle.ledger.specs.declared.day.Phase.TheVariants.{Idle, Open, Measured}
-use Rattle.ledger.specs.declared.point.Point.{Point}
+use Rattle.rows.specs.declared.point.Point.{Point}
 use Rattle.ledger.specs.Accounts.{Sound, pending}
 use Rattle.ledger.specs.Days.{is_idle}
 use Rattle.ledger.specs.History.{History, Event, TraderAdmitted, PointAdmitted, Opened, Entered, InflowTaken, Shared, OpenAbandoned, MeasuredAbandoned, PointRead, Booked, HandedOver, Withdrawn, Step, Makes, Leads, start, next}

@@ -3,11 +3,11 @@
 use Rattle.std.specs.Prelude.{◌≡◌, ℕ, ◌<◌, true, false, List, [], ◌∷◌, pos, ◌+ℤ◌, ◌-ℤ◌, slice_index}
 use Rattle.shares.specs.Fair.{Near}
 use Rattle.ledger.specs.declared.book.Book.{Book}
-use Rattle.ledger.specs.declared.point.Point.{Point}
+use Rattle.rows.specs.declared.point.Point.{Point}
 use Rattle.ledger.specs.Accounts.{account_at, all_accounts}
 use Rattle.ledger.specs.Days.{is_idle}
-use Rattle.ledger.specs.Readings.{may_book}
-use Rattle.ledger.specs.Rows.{row_at, every, may_share}
+use Rattle.rows.specs.Bookings.{may_book}
+use Rattle.rows.specs.Rows.{row_at, every, may_share}
 use Rattle.ledger.specs.Sharing.{Tells}
 use Rattle.year.specs.Settlements.{Day, Settlement, joined, day_shared, booked, points_in, trader_of}
 use Rattle.year.specs.Quantities.{quantity_on, given_for, reading_of, scale_of, shares_of, shares_since, period_of, consumption_of, corrections_of, weight_of, weight_sum, account_of, corrections_in, inflow_of, losses_of}

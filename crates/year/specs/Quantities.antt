@@ -2,10 +2,10 @@
 use Rattle.std.specs.Prelude.{ℕ, zero, suc, ◌+◌, ◌-◌, cond, List, [], ◌∷◌, map, ℤ, pos, ◌+ℤ◌, sum, ◌==◌, nat_lt, slice_index}
 use Rattle.std.specs.List.{range_with_len}
 use Rattle.profiles.specs.declared.factors.Factors.{Factors}
-use Rattle.ledger.specs.declared.point.Particulars.{Particulars}
+use Rattle.rows.specs.declared.point.Particulars.{Particulars}
 use Rattle.ledger.specs.Days.{loss_of}
-use Rattle.ledger.specs.Readings.{used, new_scale}
-use Rattle.ledger.specs.Rows.{profile_use}
+use Rattle.rows.specs.Bookings.{used, new_scale}
+use Rattle.rows.specs.Rows.{profile_use}
 use Rattle.ledger.specs.Sharing.{Tells}
 use Rattle.year.specs.Settlements.{Day, Metered, Settlement, joined, day_shared, booked, points_in, trader_of}
 

@@ -1,7 +1,7 @@
 -- What of a history counts: the points that joined, the days that were shared out and the readings that were booked, from the
 -- accepted calls alone.
 use Rattle.std.specs.Prelude.{ℕ, ◌+◌, cond, ◌&&◌, List, [], ◌∷◌, take, ℤ, pos, is_ok, Ok, Err, Result, ◌==◌}
-use Rattle.ledger.specs.declared.point.Particulars.{Particulars}
+use Rattle.rows.specs.declared.point.Particulars.{Particulars}
 use Rattle.ledger.specs.History.{History, TraderAdmitted, PointAdmitted, Opened, Entered, InflowTaken, Shared, OpenAbandoned, MeasuredAbandoned, PointRead, Booked, HandedOver, Withdrawn}
 use Rattle.ledger.specs.Sharing.{Tells}
 

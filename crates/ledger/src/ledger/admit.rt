@@ -3,11 +3,11 @@ ghost use Rattle.std.specs.Prelude.{◌≡◌, List};
 ghost use Rattle.ledger.specs.Days.{admit_answer, admit_book, point_fault, point_answer, point_book, point_sheet};
 ghost use Rattle.ledger.specs.Grounds.{answered};
 ghost use Rattle.ledger.specs.History.{Goes, TraderAdmitted, PointAdmitted};
-ghost use Rattle.ledger.specs.declared.point.Point.{Point as Row};
+ghost use Rattle.rows.specs.declared.point.Point.{Point as Row};
 
 use super::Ledger;
-use crate::limits::MAX_TRADERS;
-use crate::point::{Particulars, Point};
+use rows::MAX_TRADERS;
+use rows::{Particulars, Point};
 use refusals::Refusal;
 
 impl Ledger {

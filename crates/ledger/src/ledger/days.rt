@@ -5,7 +5,7 @@ ghost use Rattle.ledger.specs.Days.{open_fault, open_answer, open_book, enter_fa
 ghost use Rattle.ledger.specs.Days.{ended, abandon_fault, abandon_open_answer, abandon_open_book, abandon_measured_answer, abandon_measured_book};
 ghost use Rattle.ledger.specs.Grounds.{answered, handed_back, unless};
 ghost use Rattle.ledger.specs.History.{Goes, Opened, Entered, InflowTaken, OpenAbandoned, MeasuredAbandoned};
-ghost use Rattle.ledger.specs.declared.point.Point.{Point as Row};
+ghost use Rattle.rows.specs.declared.point.Point.{Point as Row};
 
 use super::Ledger;
 use crate::day::{MeasuredDay, OpenDay, Phase, Token};

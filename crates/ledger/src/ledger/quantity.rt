@@ -2,10 +2,10 @@
 ghost use Rattle.std.specs.Prelude.{◌≡◌, ◌^◌, ◌<◌, sum_by};
 ghost use Rattle.std.specs.List.{list_all};
 ghost use Rattle.ledger.specs.Days.{open_quantity_answer};
-ghost use Rattle.ledger.specs.Rows.{summable, open_sum_of};
+ghost use Rattle.rows.specs.Rows.{summable, open_sum_of};
 
 use super::Ledger;
-use crate::point::Point;
+use rows::Point;
 use refusals::Refusal;
 
 // Whether the trader's rows lie within their ranges.

@@ -4,15 +4,15 @@ ghost use Rattle.std.specs.List.{range_with_len};
 ghost use Rattle.ledger.specs.Accounts.{Settling, credited_to, pending, settled};
 ghost use Rattle.ledger.specs.Grounds.{answered};
 ghost use Rattle.ledger.specs.History.{Goes, Means, Shared};
-ghost use Rattle.ledger.specs.Rows.{every, may_share, is_free, is_served, factors_at, row_at, profile_use, profile_uses, shared_row, shared_rows};
+ghost use Rattle.rows.specs.Rows.{every, may_share, is_free, is_served, factors_at, row_at, profile_use, profile_uses, shared_row, shared_rows};
 ghost use Rattle.ledger.specs.Sharing.{Creditable, Weighable, told_on, day_quantity, day_loss, day_uses, shared_book, share_grounds, share_answer, share_book, share_sheet, share_uses, share_shares};
 
 use super::Ledger;
 use crate::book::Trader;
 use crate::day::{MeasuredDay, Phase, SharedOut, Token};
-use crate::point::Point;
-use profiles::{Factors, Profile, WHOLE, Weather};
+use profiles::{Factors, Profile, Weather};
 use refusals::{Refusal, Refused};
+use rows::{Point, profile_use};
 use shares::ShareRule;
 use std::array;
 
@@ -58,14 +58,6 @@ fn ask<P: Profile>(profile: &P, weather: Weather) -> [Factors; 8]
 {
     // A cast: there is no `From` of usize for u32.
     array::from_fn(|segment| profile.tell(segment as u32, weather))
-}
-
-// A point's profile consumption.
-fn profile_use(scale_factor: u32, factor: u32) -> u64
-    ensures value { result ≡ profile_use scale_factor factor }
-    ensures bound { result < 2 ^ 41 }
-{
-    u64::from(scale_factor) * u64::from(factor) / u64::from(WHOLE)
 }
 
 // Writes the rows' profile consumptions, and gives their sum.
@@ -234,16 +226,3 @@ impl Ledger {
     }
 }
 
-impl Point {
-    // The row after a day's share and the multiplier that was told for it joined its sums.
-    fn shared(self, share: u64, told: Factors) -> Point
-        requires { (self.open_sum ≤ 5_000_000_000_000) × ((self.period_sum ≤ 40_000_000_000) × (share ≤ 1_000_000_000)) }
-        ensures { result ≡ shared_row self share told.multiplier }
-    {
-        Point {
-            open_sum: self.open_sum + share,
-            period_sum: self.period_sum + u64::from(told.multiplier),
-            ..self
-        }
-    }
-}

@@ -4,7 +4,7 @@ use Rattle.refusals.specs.declared.Refused.{Refused}
 use Rattle.ledger.specs.declared.book.Book.{Book}
 use Rattle.ledger.specs.declared.day.MeasuredDay.{MeasuredDay}
 use Rattle.ledger.specs.declared.day.SharedOut.{SharedOut}
-use Rattle.ledger.specs.declared.point.Point.{Point}
+use Rattle.rows.specs.declared.point.Point.{Point}
 use Rattle.ledger.specs.Grounds.{handed_back, unless}
 use Rattle.ledger.specs.Days.{is_measured}
 use Rattle.ledger.specs.Sharing.{Tells, Rule, share_fault, share_answer, share_book}

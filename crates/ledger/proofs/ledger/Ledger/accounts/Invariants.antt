@@ -1,5 +1,6 @@
 use Rattle.std.proofs.Common.{◌≡◌, ◌*◌, take}
-use Rattle.ledger.specs.Accounts.{all_accounts, Near}
+use Rattle.rows.specs.Near.{Near}
+use Rattle.ledger.specs.Accounts.{all_accounts}
 use Rattle.ledger.proofs.ledger.Ledger.accounts.Given as goal
 
 abbrev pub invariant-loop-trader : goal.invariant-loop-trader

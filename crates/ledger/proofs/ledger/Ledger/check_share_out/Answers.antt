@@ -2,7 +2,7 @@ use Rattle.std.proofs.Common.{◌≡◌, ℕ, not, [], ◌∷◌, length, ap, �
 use Rattle.refusals.specs.declared.Refusal.TheVariants.{ForeignSheet, NotRunning, SlipOpenAtShareOut, SegmentNotServed}
 use Rattle.ledger.specs.Days.{is_measured}
 use Rattle.ledger.specs.Grounds.{first_ground}
-use Rattle.ledger.specs.Rows.{every, is_served}
+use Rattle.rows.specs.Rows.{every, is_served}
 use Rattle.ledger.specs.Sharing.{share_grounds}
 use Rattle.ledger.proofs.ShareOut.{tests_told}
 use Rattle.ledger.proofs.ledger.Ledger.check_share_out.Given as given

@@ -1,7 +1,7 @@
 use Rattle.std.proofs.Common.{sym, subst}
 use Rattle.ledger.specs.Accounts.{Sound}
 use Rattle.ledger.specs.History.{LawfulRule}
-use Rattle.ledger.specs.Rows.{factors_at}
+use Rattle.rows.specs.Rows.{factors_at}
 use Rattle.ledger.proofs.ShareOut.{creditable, ready, closed_book, closed_rows, closed_sound}
 use Rattle.ledger.proofs.ledger.Ledger.close_day.Given as given
 use Rattle.ledger.proofs.ledger.Ledger.close_day.Goals as goal

@@ -1,6 +1,6 @@
 use Rattle.std.proofs.Common.{rules, arith}
 use Rattle.std.proofs.lemmas.Grind.{common_steps}
-use Rattle.ledger.specs.declared.point.Point.{Point}
+use Rattle.rows.specs.declared.point.Point.{Point}
 use Rattle.ledger.specs.History.{next}
 use Rattle.ledger.specs.Readings.{hand_fault}
 use Rattle.ledger.proofs.AcceptedReadings.{hands_over}

@@ -6,13 +6,13 @@ use Rattle.std.proofs.lemmas.Bool.Decides.{nat_tests}
 use Rattle.refusals.specs.declared.Refusal.{Refusal}
 use Rattle.refusals.specs.declared.Refusal.TheVariants.{ForeignSheet}
 use Rattle.ledger.specs.declared.book.Book.{Book}
-use Rattle.ledger.specs.declared.point.Point.{Point}
+use Rattle.rows.specs.declared.point.Point.{Point}
 use Rattle.ledger.specs.Days.{trader_fault, open_quantity_fault}
 use Rattle.ledger.specs.Grounds.{answered}
-use Rattle.ledger.specs.Limits.{max_points}
-use Rattle.ledger.specs.Rows.{sheet_fits, every, summable, open_sum_of, open_sums}
+use Rattle.rows.specs.Limits.{max_points}
+use Rattle.rows.specs.Rows.{sheet_fits, every, summable, open_sum_of, open_sums}
 use Rattle.ledger.proofs.Grounds.{passed_by}
-use Rattle.ledger.proofs.Rows.{all_front, open_sums_front, open_sums_small}
+use Rattle.rows.proofs.Rows.{all_front, open_sums_front, open_sums_small}
 use Rattle.ledger.proofs.ledger.Ledger.open_quantity.Goals as goal
 use Rattle.ledger.proofs.ledger.Ledger.open_quantity.Goals.{In_ok-rows, In_ok-trader}
 

@@ -2,8 +2,8 @@ use Rattle.std.proofs.Common.{ℕ, ◌<◌, ◌++◌, map, length, drop, sum, sy
 use Rattle.std.specs.List.{range_with_len}
 use Rattle.std.proofs.lemmas.List.{length-take-le, get_or-take}
 use Rattle.profiles.specs.declared.weather.Weather.{Weather}
-use Rattle.ledger.specs.declared.point.Point.{Point}
-use Rattle.ledger.specs.Rows.{no_row}
+use Rattle.rows.specs.declared.point.Point.{Point}
+use Rattle.rows.specs.Rows.{no_row}
 use Rattle.ledger.proofs.ShareOut.{segment_small, weighed_is}
 use Rattle.ledger.proofs.ledger.Ledger.weigh_day.Goals as goal
 

@@ -1,7 +1,7 @@
 use Rattle.std.proofs.Common.{set, ap}
-use Rattle.ledger.specs.Rows.{row_at, factors_at}
+use Rattle.rows.specs.Rows.{row_at, factors_at}
 use Rattle.ledger.proofs.Crediting.{turn, credit_step, row_step}
-use Rattle.ledger.proofs.Rows.{shared_rows_none}
+use Rattle.rows.proofs.Rows.{shared_rows_none}
 use Rattle.ledger.proofs.Traders.{credited_to_none}
 use Rattle.ledger.proofs.ledger.share.credit.Goals as goal
 

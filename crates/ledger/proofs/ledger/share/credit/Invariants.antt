@@ -1,6 +1,6 @@
 use Rattle.std.proofs.Common.{◌≡◌}
 use Rattle.ledger.specs.Accounts.{credited_to}
-use Rattle.ledger.specs.Rows.{factors_at, shared_rows}
+use Rattle.rows.specs.Rows.{factors_at, shared_rows}
 use Rattle.ledger.proofs.ledger.share.credit.Given as goal
 
 abbrev pub invariant-loop-i : goal.invariant-loop-i

@@ -1,5 +1,5 @@
-use Rattle.ledger.specs.Rows.{may_share, is_free, is_served}
-use Rattle.ledger.proofs.Rows.{every_none, every_more}
+use Rattle.rows.specs.Rows.{may_share, is_free, is_served}
+use Rattle.rows.proofs.Rows.{every_none, every_more}
 use Rattle.ledger.proofs.ledger.share.test_rows.Goals as goal
 
 pub loop-row-init : goal.loop-row-init

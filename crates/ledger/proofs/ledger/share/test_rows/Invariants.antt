@@ -1,5 +1,5 @@
 use Rattle.std.proofs.Common.{◌≡◌}
-use Rattle.ledger.specs.Rows.{every, may_share, is_free, is_served}
+use Rattle.rows.specs.Rows.{every, may_share, is_free, is_served}
 use Rattle.ledger.proofs.ledger.share.test_rows.Given as goal
 
 abbrev pub invariant-loop-row : goal.invariant-loop-row

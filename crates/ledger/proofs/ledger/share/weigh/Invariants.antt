@@ -1,5 +1,5 @@
 use Rattle.std.proofs.Common.{◌≡◌, ◌*◌, ◌^◌, ◌≤◌, take, sum}
-use Rattle.ledger.specs.Rows.{factors_at, profile_uses}
+use Rattle.rows.specs.Rows.{factors_at, profile_uses}
 use Rattle.ledger.proofs.ledger.share.weigh.Given as goal
 
 abbrev pub invariant-loop-i : goal.invariant-loop-i

@@ -1,7 +1,7 @@
 use Rattle.std.proofs.Common.{arith}
 use Rattle.std.proofs.lemmas.Int.{ints}
-use Rattle.ledger.proofs.Corrections.{ranged}
-use Rattle.ledger.proofs.ledger.readings.FitRow.correction.Goals as goal
+use Rattle.rows.proofs.Corrections.{ranged}
+use Rattle.rows.proofs.booked.FitRow.correction.Goals as goal
 
 pub returns : goal.returns
 returns c =

@@ -1,8 +1,8 @@
 use Rattle.std.proofs.Common.{◌≡◌, ℕ, ◌*◌, ◌≤◌, sym, subst, arith}
 use Rattle.std.proofs.lemmas.Bool.Decides.{nat_tests}
-use Rattle.ledger.specs.Readings.{row_use}
-use Rattle.ledger.proofs.Corrections.{use_small}
-use Rattle.ledger.proofs.ledger.readings.FitRow.kept_use.Goals as goal
+use Rattle.rows.specs.Bookings.{row_use}
+use Rattle.rows.proofs.Corrections.{use_small}
+use Rattle.rows.proofs.booked.FitRow.kept_use.Goals as goal
 
 pub dial_turned-requires : goal.dial_turned-requires
 dial_turned-requires c = let h = c.args.self.now.in_range in record { few = grind (arith, nat_tests); most = grind (arith, nat_tests); old = grind (arith, nat_tests); new = grind (arith, nat_tests) }

@@ -7,10 +7,10 @@ use Rattle.std.proofs.lemmas.List.Sums.{sum_by-cons, sum_by_more}
 use Rattle.std.proofs.lemmas.List.Recursion.{and_push}
 use Rattle.std.proofs.lemmas.Bool.{leb-true, and_parts, and_from, cases_lt}
 use Rattle.profiles.specs.declared.factors.Factors.{Factors}
-use Rattle.ledger.specs.declared.point.Point.{Point}
-use Rattle.ledger.specs.Limits.{max_open_sum}
-use Rattle.ledger.proofs.Ranges.{open_sum_small}
-use Rattle.ledger.specs.Rows.{row_at, no_row, sheet_fits, every, summable, shared_row, shared_rows, open_sums, open_sum_of}
+use Rattle.rows.specs.declared.point.Point.{Point}
+use Rattle.rows.specs.Limits.{max_open_sum}
+use Rattle.rows.proofs.Ranges.{open_sum_small}
+use Rattle.rows.specs.Rows.{row_at, no_row, sheet_fits, every, summable, shared_row, shared_rows, open_sums, open_sum_of}
 
 -- A test of each row.
 

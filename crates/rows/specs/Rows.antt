@@ -1,13 +1,10 @@
 -- The rows of a point sheet: their ranges, what a point is expected to use, and what a share-out does to a row.
-use Rattle.std.specs.Prelude.{ℕ, zero, suc, ◌+◌, ◌*◌, ◌/◌, ◌^◌, ◌<◌, ◌≤◌, Bool, true, cond, not, ◌&&◌, List, [], ◌∷◌, map, length, Option, ◌==◌, nat_le, nat_lt, slice_index, slice_index_or, slice_set}
-use Rattle.refusals.specs.declared.Refusal.{Refusal}
-use Rattle.refusals.specs.declared.Refusal.TheVariants.{PointSheetLength, NoSuchPoint}
+use Rattle.std.specs.Prelude.{ℕ, zero, suc, ◌+◌, ◌*◌, ◌/◌, ◌^◌, ◌<◌, ◌≤◌, Bool, true, cond, ◌&&◌, List, map, length, ◌==◌, nat_le, nat_lt, slice_index, slice_index_or, slice_set}
 use Rattle.profiles.specs.declared.factors.Factors.{Factors}
 use Rattle.profiles.specs.Laws.{both, whole}
-use Rattle.ledger.specs.declared.point.Point.{Point}
-use Rattle.ledger.specs.declared.point.Particulars.{Particulars}
-use Rattle.ledger.specs.Grounds.{first_ground}
-use Rattle.ledger.specs.Limits.{max_traders, max_scale, max_points, max_open_sum, max_period_sum, full_open_sum, full_period_sum}
+use Rattle.rows.specs.declared.point.Point.{Point}
+use Rattle.rows.specs.declared.point.Particulars.{Particulars}
+use Rattle.rows.specs.Limits.{max_traders, max_scale, max_points, max_open_sum, max_period_sum, full_open_sum, full_period_sum}
 
 -- what a reader past the end of a sheet would see; no call reads there
 abbrev pub no_row : Point
@@ -31,10 +28,6 @@ row_at s k = slice_index_or s k no_row
 -- a sheet long enough for the n points admitted, and not over the limit
 abbrev pub sheet_fits : ℕ → List Point → Bool
 sheet_fits n s = nat_le n (length s) && nat_le (length s) max_points
-
--- why there is no row of a point to be had: the sheet does not fit the n points admitted, or the point is none of them
-abbrev pub row_fault : ℕ → List Point → ℕ → Option Refusal
-row_fault n s k = first_ground ((not (sheet_fits n s), PointSheetLength) ∷ (nat_le n k, NoSuchPoint) ∷ [])
 
 -- a dial of some digits, and a reading on it
 abbrev pub dial_fits : ℕ → ℕ → Bool

@@ -3,11 +3,11 @@ use Rattle.std.proofs.Common.{◌≡◌, ℕ, ◌+◌, ◌-◌, ◌^◌, ◌<◌
 use native.Mathlib.Nat.{pow-le-pow_right, min-le_left}
 use Rattle.std.proofs.lemmas.Int.{ints}
 use Rattle.std.proofs.lemmas.Bool.{ltb-true, ltb-false, leb-true, and_parts, cond_both}
-use Rattle.ledger.specs.declared.point.Point.{Point}
-use Rattle.ledger.specs.Accounts.{Near}
-use Rattle.ledger.specs.Limits.{max_traders, max_scale, max_open_sum, max_period_sum, max_correction}
-use Rattle.ledger.specs.Readings.{turned, new_scale, row_use, row_correction}
-use Rattle.ledger.specs.Rows.{in_range, particulars_fit}
+use Rattle.rows.specs.declared.point.Point.{Point}
+use Rattle.rows.specs.Near.{Near}
+use Rattle.rows.specs.Limits.{max_traders, max_scale, max_open_sum, max_period_sum, max_correction}
+use Rattle.rows.specs.Bookings.{turned, new_scale, row_use, row_correction}
+use Rattle.rows.specs.Rows.{in_range, particulars_fit}
 
 -- what the test of the particulars says
 pub record Fitting (segment digits litres reading scale : ℕ) : Type 0 where

@@ -2,10 +2,10 @@
 use Rattle.std.proofs.Common.{◌≡◌, ℕ, ◌≤◌, true, arith}
 use Rattle.std.proofs.lemmas.Bool.{ltb-true, and_parts}
 use Rattle.std.proofs.lemmas.Bool.Decides.{nat_tests}
-use Rattle.ledger.specs.declared.point.Point.{Point}
-use Rattle.ledger.specs.Limits.{max_open_sum}
-use Rattle.ledger.specs.Rows.{Shareable, in_range, may_share, summable, open_sum_of}
-use Rattle.ledger.proofs.Corrections.{ranged}
+use Rattle.rows.specs.declared.point.Point.{Point}
+use Rattle.rows.specs.Limits.{max_open_sum}
+use Rattle.rows.specs.Rows.{Shareable, in_range, may_share, summable, open_sum_of}
+use Rattle.rows.proofs.Corrections.{ranged}
 
 -- a trader's row that can be summed has an open sum within its limit
 pub open_sum_small : (t : ℕ) (p : Point) → summable t p ≡ true → open_sum_of t p ≤ max_open_sum

@@ -1,6 +1,6 @@
 // A meter point as a plain row of the caller's sheet, what is given when it is admitted, and what is asked of either.
 ghost use Rattle.std.specs.Prelude.{◌≡◌, ◌^◌, ◌≤◌};
-ghost use Rattle.ledger.specs.Rows.{particulars_fit, admitted_row, in_range, is_free, may_share, summable, open_sum_of};
+ghost use Rattle.rows.specs.Rows.{particulars_fit, admitted_row, in_range, is_free, may_share, summable, open_sum_of};
 
 use crate::limits::{
     FULL_OPEN_SUM, FULL_PERIOD_SUM, MAX_OPEN_SUM, MAX_PERIOD_SUM, MAX_SCALE, MAX_TRADERS,
@@ -56,7 +56,7 @@ pub struct Particulars {
 }
 
 // Ten to the power of digits: where a dial starts again.
-pub(crate) fn dial_end(digits: u32) -> u32
+pub fn dial_end(digits: u32) -> u32
     requires { (4 ≤ digits) × (digits ≤ 8) }
     ensures { result ≡ 10 ^ digits }
 {
@@ -101,7 +101,7 @@ impl From<Point> for Particulars {
 
 impl Particulars {
     // Whether they lie in their ranges, but for the trader.
-    pub(crate) fn fit(&self) -> bool
+    pub fn fit(&self) -> bool
         ensures { result ≡ particulars_fit self.now.segment self.now.digits self.now.litres_per_unit self.now.reading self.now.scale_factor }
     {
         self.segment < 8
@@ -114,14 +114,14 @@ impl Particulars {
 
 impl Point {
     // Whether no slip of the point is open.
-    pub(crate) fn is_free(&self) -> bool
+    pub fn is_free(&self) -> bool
         ensures { result ≡ is_free self.now }
     {
         self.slip == 0
     }
 
     // Whether the row lies within its ranges.
-    pub(crate) fn in_range(&self) -> bool
+    pub fn in_range(&self) -> bool
         ensures { result ≡ in_range self.now }
     {
         self.trader < MAX_TRADERS
@@ -132,7 +132,7 @@ impl Point {
     }
 
     // Whether one more day can be shared out to the row, with so many traders admitted.
-    pub(crate) fn may_share(&self, traders: u32) -> bool
+    pub fn may_share(&self, traders: u32) -> bool
         ensures { result ≡ may_share traders self.now }
     {
         self.in_range()
@@ -142,14 +142,14 @@ impl Point {
     }
 
     // Whether the row can be summed for the trader: it is another's, or within its ranges.
-    pub(crate) fn is_summable(&self, trader: u32) -> bool
+    pub fn is_summable(&self, trader: u32) -> bool
         ensures { result ≡ summable trader self.now }
     {
         self.trader != trader || self.in_range()
     }
 
     // The row's open sum where it is the trader's, and else nought, which is what it adds to his.
-    pub(crate) fn open_sum_of(&self, trader: u32) -> u64
+    pub fn open_sum_of(&self, trader: u32) -> u64
         ensures { result ≡ open_sum_of trader self.now }
     {
         if self.trader == trader {

@@ -1,0 +1,3 @@
+pub mod Corrections
+pub mod Ranges
+pub mod Rows

@@ -1,0 +1,4 @@
+pub mod Limits
+pub mod Near
+pub mod Rows
+pub mod Bookings
