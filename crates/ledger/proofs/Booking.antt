@@ -6,14 +6,14 @@ use Rattle.ledger.specs.declared.book.Book.{Book}
 use Rattle.rows.specs.declared.point.Point.{Point}
 use Rattle.ledger.specs.declared.slip.Slip.{Slip}
 use Rattle.ledger.specs.Grounds.{handed_back, unless}
-use Rattle.ledger.specs.History.{Step}
 use Rattle.rows.specs.Bookings.{row_correction, booked_row}
-use Rattle.ledger.specs.Readings.{booked_book}
+use Rattle.ledger.specs.Outcomes.{Outcome, tested_for, Became}
+use Rattle.ledger.specs.Readings.{booked_book, booked_to}
 use Rattle.rows.specs.Rows.{row_at}
 
 -- owner: who has the point then, by its row; by: what was booked
 module _ (l : Book) (s : List Point) (slip : Slip) (fault : Option Refusal) (row : Point) (none : fault ≡ None) (is : row ≡ row_at s slip.point) where
-  pub booked_step : (owner : Point → ℕ) (by : ℤ) (l' : Book) (row' : Point) → SFits w64 by → by ≡ row_correction row → l' ≡ booked_book l row → row' ≡ booked_row row (owner row) → Step (Ok (to_z w64 (of_z w64 by))) (handed_back fault slip (row_correction (row_at s slip.point))) l' (unless fault (booked_book l (row_at s slip.point)) l) (set s slip.point row') (unless fault (set s slip.point (booked_row (row_at s slip.point) (owner (row_at s slip.point)))) s)
+  pub booked_step : (owner : Point → ℕ) (by : ℤ) (l' : Book) (row' : Point) → SFits w64 by → by ≡ row_correction row → l' ≡ booked_book l row → row' ≡ booked_row row (owner row) → Became (tested_for slip fault l s (booked_to l s slip (owner (row_at s slip.point)))) (Ok (to_z w64 (of_z w64 by))) l' (set s slip.point row')
   booked_step owner by l' row' fits b st r =
       let was = row_at s slip.point in
       record {

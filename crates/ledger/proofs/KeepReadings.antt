@@ -10,14 +10,14 @@ use Rattle.rows.specs.Near.{Near}
 use Rattle.ledger.specs.Accounts.{account_at, metered_at, credited, reach, day_holds, Sound}
 use Rattle.rows.specs.Limits.{max_correction}
 use Rattle.rows.specs.Bookings.{row_correction}
-use Rattle.ledger.specs.Readings.{one_more_booking, read_fault, read_book, booked_book, book_fault, book_book, hand_fault, hand_book}
+use Rattle.ledger.specs.Readings.{one_more_booking, read_fault, reading_at, booked_book, book_fault, booking, hand_fault, handing_over, withdraw_fault, withdrawal}
 use Rattle.rows.specs.Rows.{row_at, in_range}
 use Rattle.ledger.proofs.AcceptedReadings.{reads, books, hands_over}
 use Rattle.rows.proofs.Corrections.{correction_near}
 use Rattle.ledger.proofs.Grounds.{by_unless}
 use Rattle.ledger.proofs.Traders.{near_more, near_add, near_sub, at_set, metered_sum-set}
 
-pub read_sound : (l : Book) (s : List Point) (k reading : ℕ) → Sound l → Sound (read_book l s k reading)
+pub read_sound : (l : Book) (s : List Point) (k reading : ℕ) → Sound l → Sound (reading_at l s k reading).book
 read_sound l s k reading h =
     by_unless Sound (read_fault l s k reading) _ l
     (λ e.
@@ -67,17 +67,20 @@ booked_sound l p h fits left =
           (omega arith);
     }
 
-pub book_sound : (l : Book) (s : List Point) (slip : Slip) → Sound l → Sound (book_book l s slip)
+pub book_sound : (l : Book) (s : List Point) (slip : Slip) → Sound l → Sound (booking l s slip).book
 book_sound l s slip h =
     by_unless Sound (book_fault l s slip) _ l
     (λ e. let b = books l s slip e in booked_sound l (row_at s slip.point) h b.ranges b.left)
     h
 
-pub hand_sound : (l : Book) (s : List Point) (slip : Slip) (t : ℕ) → Sound l → Sound (hand_book l s slip t)
+pub hand_sound : (l : Book) (s : List Point) (slip : Slip) (t : ℕ) → Sound l → Sound (handing_over l s slip t).book
 hand_sound l s slip t h =
     by_unless Sound (hand_fault l s slip t) _ l
     (λ e. let b = (hands_over l s slip t e).books in booked_sound l (row_at s slip.point) h b.ranges b.left)
     h
+
+pub withdraw_sound : (l : Book) (s : List Point) (slip : Slip) → Sound l → Sound (withdrawal l s slip).book
+withdraw_sound l s slip h = by_unless Sound (withdraw_fault l s slip) l l (λ e. h) h
 
 -- The two accounts that a booking moves, as numbers of 64 bits: both fit, and nothing is lost.
 

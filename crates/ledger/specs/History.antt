@@ -13,7 +13,8 @@ use Rattle.rows.specs.declared.point.Point.{Point}
 use Rattle.ledger.specs.declared.slip.Slip.{Slip}
 use Rattle.ledger.specs.Accounts.{new_book}
 use Rattle.ledger.specs.Days.{admit_answer, admit_book, point_answer, point_book, point_sheet, open_answer, open_book, enter_answer, enter_book, inflow_answer, inflow_book, abandon_open_answer, abandon_open_book, abandon_measured_answer, abandon_measured_book}
-use Rattle.ledger.specs.Readings.{read_answer, read_book, read_sheet, book_answer, book_book, book_sheet, hand_answer, hand_book, hand_sheet, withdraw_answer, withdraw_sheet}
+use Rattle.ledger.specs.Outcomes.{Became}
+use Rattle.ledger.specs.Readings.{reading_at, booking, handing_over, withdrawal}
 use Rattle.ledger.specs.Sharing.{Tells, Rule, share_answer, share_book, share_sheet, share_uses, share_shares}
 
 -- a profile is lawful where what it tells are factors
@@ -57,12 +58,6 @@ pub data Event : Type 0 where
 abbrev pub History : Type 0
 History = List Event
 
--- a call that was told r, where want is what its rule gives, and that took the ledger to l and the sheet to s
-pub record Step {A : Type 0} (r want : A) (l' l : Book) (s' s : List Point) : Type 0 where
-  pub answer : r ≡ want
-  pub state : l' ≡ l
-  pub rows : s' ≡ s
-
 pub record ShareStep (day : MeasuredDay) (m : Means) (r : Result SharedOut (Refused MeasuredDay)) (uses shares : List ℕ) (l : Book) (s : List Point) (l' : Book) (s' : List Point) : Type 0 where
   pub profile : LawfulProfile m.tells
   pub rule : LawfulRule m.rule
@@ -74,18 +69,18 @@ pub record ShareStep (day : MeasuredDay) (m : Means) (r : Result SharedOut (Refu
 
 -- the call e takes the ledger l and the sheet s to l' and s'
 abbrev pub Makes : Event → Book → List Point → Book → List Point → Type 0
-Makes (TraderAdmitted r) l s l' s' = Step r (admit_answer l) l' (admit_book l) s' s
-Makes (PointAdmitted g r) l s l' s' = Step r (point_answer l s g) l' (point_book l s g) s' (point_sheet l s g)
-Makes (Opened t n r) l s l' s' = Step r (open_answer l t n) l' (open_book l t n) s' s
-Makes (Entered d t q r) l s l' s' = Step r (enter_answer l d t q) l' (enter_book l d t q) s' s
-Makes (InflowTaken d g x r) l s l' s' = Step r (inflow_answer l d g x) l' (inflow_book l d g x) s' s
+Makes (TraderAdmitted r) l s l' s' = Became (record { answer = admit_answer l; book = admit_book l; rows = s }) r l' s'
+Makes (PointAdmitted g r) l s l' s' = Became (record { answer = point_answer l s g; book = point_book l s g; rows = point_sheet l s g }) r l' s'
+Makes (Opened t n r) l s l' s' = Became (record { answer = open_answer l t n; book = open_book l t n; rows = s }) r l' s'
+Makes (Entered d t q r) l s l' s' = Became (record { answer = enter_answer l d t q; book = enter_book l d t q; rows = s }) r l' s'
+Makes (InflowTaken d g x r) l s l' s' = Became (record { answer = inflow_answer l d g x; book = inflow_book l d g x; rows = s }) r l' s'
 Makes (Shared d m r us ss) l s l' s' = ShareStep d m r us ss l s l' s'
-Makes (OpenAbandoned d r) l s l' s' = Step r (abandon_open_answer l d) l' (abandon_open_book l d) s' s
-Makes (MeasuredAbandoned d r) l s l' s' = Step r (abandon_measured_answer l d) l' (abandon_measured_book l d) s' s
-Makes (PointRead k v r) l s l' s' = Step r (read_answer l s k v) l' (read_book l s k v) s' (read_sheet l s k v)
-Makes (Booked w r) l s l' s' = Step r (book_answer l s w) l' (book_book l s w) s' (book_sheet l s w)
-Makes (HandedOver w t r) l s l' s' = Step r (hand_answer l s w t) l' (hand_book l s w t) s' (hand_sheet l s w t)
-Makes (Withdrawn w r) l s l' s' = Step r (withdraw_answer l s w) l' l s' (withdraw_sheet l s w)
+Makes (OpenAbandoned d r) l s l' s' = Became (record { answer = abandon_open_answer l d; book = abandon_open_book l d; rows = s }) r l' s'
+Makes (MeasuredAbandoned d r) l s l' s' = Became (record { answer = abandon_measured_answer l d; book = abandon_measured_book l d; rows = s }) r l' s'
+Makes (PointRead k v r) l s l' s' = Became (reading_at l s k v) r l' s'
+Makes (Booked w r) l s l' s' = Became (booking l s w) r l' s'
+Makes (HandedOver w t r) l s l' s' = Became (handing_over l s w t) r l' s'
+Makes (Withdrawn w r) l s l' s' = Became (withdrawal l s w) r l' s'
 
 -- the history h leads to the ledger l and the sheet s: it begins with a new ledger and any sheet, an unused one as well
 pub data Leads : History → Book → List Point → Type 0 where

@@ -8,7 +8,8 @@ use Rattle.refusals.specs.declared.Refused.{Refused}
 use Rattle.rows.specs.declared.point.Point.{Point}
 use Rattle.ledger.specs.declared.slip.Slip.{Slip}
 use Rattle.ledger.specs.Accounts.{credited, with_counts}
-use Rattle.ledger.specs.Grounds.{first_ground, answered, handed_back, unless}
+use Rattle.ledger.specs.Grounds.{first_ground}
+use Rattle.ledger.specs.Outcomes.{Outcome, tested, tested_for}
 use Rattle.ledger.specs.Limits.{max_readings}
 use Rattle.rows.specs.Rows.{row_at, sheet_fits, dial_fits, in_range}
 use Rattle.rows.specs.Bookings.{slipped, row_correction, booked_row, is_slip_of, may_book}
@@ -33,14 +34,17 @@ read_fault l s k reading =
     ∷ (nat_le max_readings l.counts.readings, NoMoreReadings)
     ∷ [])
 
-abbrev pub read_answer : Book → List Point → ℕ → ℕ → Result Slip Refusal
-read_answer l s k reading = answered (read_fault l s k reading) (record { number = l.counts.readings + 1; point = k })
+abbrev pub reading_done : Book → List Point → ℕ → ℕ → Outcome Slip
+reading_done l s k reading =
+    let number = l.counts.readings + 1 in
+    record {
+      answer = record { number = number; point = k };
+      book = with_counts l (one_more_reading l.counts);
+      rows = slice_set s k (slipped (row_at s k) number reading);
+    }
 
-abbrev pub read_book : Book → List Point → ℕ → ℕ → Book
-read_book l s k reading = unless (read_fault l s k reading) (with_counts l (one_more_reading l.counts)) l
-
-abbrev pub read_sheet : Book → List Point → ℕ → ℕ → List Point
-read_sheet l s k reading = unless (read_fault l s k reading) (slice_set s k (slipped (row_at s k) (l.counts.readings + 1) reading)) s
+abbrev pub reading_at : Book → List Point → ℕ → ℕ → Outcome (Result Slip Refusal)
+reading_at l s k reading = tested (read_fault l s k reading) l s (reading_done l s k reading)
 
 -- Booking a slip.
 
@@ -69,15 +73,14 @@ book_fault l s slip =
     ∷ (not_bookable l s slip, NotOpenSlip)
     ∷ [])
 
-abbrev pub book_answer : Book → List Point → Slip → Result ℤ (Refused Slip)
-book_answer l s slip = handed_back (book_fault l s slip) slip (row_correction (row_at s slip.point))
+-- the row of the slip's point booked, and then trader t's
+abbrev pub booked_to : Book → List Point → Slip → ℕ → Outcome ℤ
+booked_to l s slip t =
+    let row = row_at s slip.point in
+    record { answer = row_correction row; book = booked_book l row; rows = slice_set s slip.point (booked_row row t) }
 
-abbrev pub book_book : Book → List Point → Slip → Book
-book_book l s slip = unless (book_fault l s slip) (booked_book l (row_at s slip.point)) l
-
-abbrev pub book_sheet : Book → List Point → Slip → List Point
-book_sheet l s slip =
-    unless (book_fault l s slip) (slice_set s slip.point (booked_row (row_at s slip.point) (row_at s slip.point).trader)) s
+abbrev pub booking : Book → List Point → Slip → Outcome (Result ℤ (Refused Slip))
+booking l s slip = tested_for slip (book_fault l s slip) l s (booked_to l s slip (row_at s slip.point).trader)
 
 -- Handing a point over: a booking for the old trader, then the new trader.
 
@@ -92,14 +95,8 @@ hand_fault l s slip t =
     ∷ (((row_at s slip.point).trader == t), SameTrader)
     ∷ [])
 
-abbrev pub hand_answer : Book → List Point → Slip → ℕ → Result ℤ (Refused Slip)
-hand_answer l s slip t = handed_back (hand_fault l s slip t) slip (row_correction (row_at s slip.point))
-
-abbrev pub hand_book : Book → List Point → Slip → ℕ → Book
-hand_book l s slip t = unless (hand_fault l s slip t) (booked_book l (row_at s slip.point)) l
-
-abbrev pub hand_sheet : Book → List Point → Slip → ℕ → List Point
-hand_sheet l s slip t = unless (hand_fault l s slip t) (slice_set s slip.point (booked_row (row_at s slip.point) t)) s
+abbrev pub handing_over : Book → List Point → Slip → ℕ → Outcome (Result ℤ (Refused Slip))
+handing_over l s slip t = tested_for slip (hand_fault l s slip t) l s (booked_to l s slip t)
 
 -- Withdrawing a reading.
 
@@ -111,8 +108,9 @@ withdraw_fault l s slip =
     ∷ (not (is_slip_of (row_at s slip.point) slip.number), NotOpenSlip)
     ∷ [])
 
-abbrev pub withdraw_answer : Book → List Point → Slip → Result Unit (Refused Slip)
-withdraw_answer l s slip = handed_back (withdraw_fault l s slip) slip tt
+abbrev pub withdrawal_done : Book → List Point → Slip → Outcome Unit
+withdrawal_done l s slip =
+    record { answer = tt; book = l; rows = slice_set s slip.point (slipped (row_at s slip.point) 0 0) }
 
-abbrev pub withdraw_sheet : Book → List Point → Slip → List Point
-withdraw_sheet l s slip = unless (withdraw_fault l s slip) (slice_set s slip.point (slipped (row_at s slip.point) 0 0)) s
+abbrev pub withdrawal : Book → List Point → Slip → Outcome (Result Unit (Refused Slip))
+withdrawal l s slip = tested_for slip (withdraw_fault l s slip) l s (withdrawal_done l s slip)

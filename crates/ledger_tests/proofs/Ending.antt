@@ -4,9 +4,9 @@ use Rattle.refusals.specs.declared.Refusal.{Refusal}
 use Rattle.ledger.specs.declared.book.Book.{Book}
 use Rattle.rows.specs.declared.point.Point.{Point}
 use Rattle.ledger.specs.declared.slip.Slip.{Slip}
-use Rattle.ledger.specs.Accounts.{with_counts}
-use Rattle.ledger.specs.Grounds.{answered, unless}
-use Rattle.ledger.specs.Readings.{one_more_reading, read_fault, read_answer, read_book}
+use Rattle.ledger.specs.Grounds.{unless}
+use Rattle.ledger.specs.Outcomes.{tested}
+use Rattle.ledger.specs.Readings.{read_fault, reading_at, reading_done}
 use Rattle.ledger.proofs.AcceptedReadings.{reads}
 use Rattle.ledger.proofs.Grounds.{by_option, by_unless}
 use Rattle.ledger_tests.specs.Slips.{Endable}
@@ -16,11 +16,9 @@ pub stays : {A : Type 0} (π : Book → A) (f : Option Refusal) (new l b : Book)
 stays π f new l b e h = ap π e ∙ by_unless (λ (x : Book). π x ≡ π l) f new l (λ _. h) refl
 
 -- the slip that a reading makes
-pub made : (l : Book) (s : List Point) (k v : ℕ) (b : Book) (r : Result Slip Refusal) → r ≡ read_answer l s k v → b ≡ read_book l s k v → IfOk r (λ x. Endable b x)
+pub made : (l : Book) (s : List Point) (k v : ℕ) (b : Book) (r : Result Slip Refusal) → r ≡ (reading_at l s k v).answer → b ≡ (reading_at l s k v).book → IfOk r (λ x. Endable b x)
 made l s k v b r er eb =
-    let slip : Slip = record { number = l.counts.readings + 1; point = k } in
-    let new = with_counts l (one_more_reading l.counts) in
     let some : 0 < l.counts.readings + 1 = omega arith in
     subst (λ (y : Book). IfOk r (λ x. Endable y x)) (sym eb)
-    (subst (λ (z : Result Slip Refusal). IfOk z (λ x. Endable (read_book l s k v) x)) (sym er)
-    (by_option (λ o. IfOk (answered o slip) (λ x. Endable (unless o new l) x)) (read_fault l s k v) (λ none. (some, (reads l s k v none).there.admitted)) (λ _. tt)))
+    (subst (λ (z : Result Slip Refusal). IfOk z (λ x. Endable (reading_at l s k v).book x)) (sym er)
+    (by_option (λ o. let g = tested o l s (reading_done l s k v) in IfOk g.answer (λ x. Endable g.book x)) (read_fault l s k v) (λ none. (some, (reads l s k v none).there.admitted)) (λ _. tt)))

@@ -2,7 +2,8 @@
 ghost use Rattle.std.specs.Prelude.{◌≡◌, true, length};
 ghost use Rattle.ledger.specs.Accounts.{new_book};
 ghost use Rattle.ledger.specs.Days.{admit_answer, admit_book, point_answer, point_book, point_sheet, open_answer, open_book, enter_book, inflow_answer, inflow_book};
-ghost use Rattle.ledger.specs.Readings.{read_answer, read_book, read_sheet, book_answer, book_book, book_sheet, hand_answer, hand_book, hand_sheet};
+ghost use Rattle.ledger.specs.Outcomes.{Became, ended};
+ghost use Rattle.ledger.specs.Readings.{reading_at, booking, handing_over};
 ghost use Rattle.player.specs.Running.{tied, open_day, opened, measured, entry_told, abandon_told, abandoned, shared_told, on_measured};
 ghost use Rattle.ledger.specs.Sharing.{share_answer, share_book, share_sheet, share_shares};
 
@@ -75,18 +76,14 @@ impl Station {
         point: usize,
         reading: u32,
     ) -> Result<Slip, Refusal>
-        ensures answer { result ≡ read_answer self.old.ledger.book sheet.old point reading }
-        ensures state { self.new.ledger.book ≡ read_book self.old.ledger.book sheet.old point reading }
-        ensures rows { sheet.new ≡ read_sheet self.old.ledger.book sheet.old point reading }
+        ensures became { Became (reading_at self.old.ledger.book sheet.old point reading) result self.new.ledger.book sheet.new }
     {
         self.ledger.read(sheet, point, reading)
     }
 
     // Books a slip: the correction.
     pub(crate) fn book(&mut self, sheet: &mut [Point], slip: Slip) -> Result<i64, Refused<Slip>>
-        ensures answer { result ≡ book_answer self.old.ledger.book sheet.old slip }
-        ensures state { self.new.ledger.book ≡ book_book self.old.ledger.book sheet.old slip }
-        ensures rows { sheet.new ≡ book_sheet self.old.ledger.book sheet.old slip }
+        ensures { ended result self.new.ledger.book sheet.new ≡ booking self.old.ledger.book sheet.old slip }
     {
         self.ledger.book(sheet, slip)
     }
@@ -98,9 +95,7 @@ impl Station {
         slip: Slip,
         trader: u32,
     ) -> Result<i64, Refused<Slip>>
-        ensures answer { result ≡ hand_answer self.old.ledger.book sheet.old slip trader }
-        ensures state { self.new.ledger.book ≡ hand_book self.old.ledger.book sheet.old slip trader }
-        ensures rows { sheet.new ≡ hand_sheet self.old.ledger.book sheet.old slip trader }
+        ensures became { Became (handing_over self.old.ledger.book sheet.old slip trader) result self.new.ledger.book sheet.new }
     {
         self.ledger.hand_over(sheet, slip, trader)
     }

@@ -4,13 +4,13 @@ use Rattle.std.proofs.lemmas.Bool.{eq-eqb, ne_eqb, cond-true, cond-false}
 use Rattle.ledger.specs.declared.book.Book.{Book}
 use Rattle.rows.specs.declared.point.Point.{Point}
 use Rattle.ledger.specs.declared.slip.Slip.{Slip}
-use Rattle.ledger.specs.Accounts.{with_counts, credited, Sound}
-use Rattle.ledger.specs.Grounds.{answered, handed_back, unless}
+use Rattle.ledger.specs.Accounts.{credited, Sound}
+use Rattle.ledger.specs.Outcomes.{tested, tested_for}
 use Rattle.rows.specs.Bookings.{slipped, row_correction, booked_row}
-use Rattle.ledger.specs.Readings.{one_more_reading, read_fault, read_answer, read_book, read_sheet, booked_book, book_fault, book_answer, book_book, book_sheet, hand_fault, hand_answer, hand_book, hand_sheet, withdraw_fault, withdraw_sheet}
+use Rattle.ledger.specs.Readings.{read_fault, reading_at, reading_done, booked_book, book_fault, booked_to, booking, hand_fault, handing_over, withdraw_fault, withdrawal, withdrawal_done}
 use Rattle.rows.specs.Rows.{row_at}
 use Rattle.ledger.proofs.AcceptedReadings.{Books, reads, books, hands_over, withdraws}
-use Rattle.ledger.proofs.Grounds.{by_option, by_unless}
+use Rattle.ledger.proofs.Grounds.{by_option}
 use Rattle.ledger.proofs.Traders.{metered_set, metered_sum-set}
 use Rattle.year.specs.Settlements.{Day, Settlement, booked, trader_of, accepted, told_in}
 use Rattle.year.proofs.Today.{today_still}
@@ -21,11 +21,11 @@ use Rattle.year.proofs.Consumption.{consumed_booked}
 use Rattle.year.proofs.Agreement.{Agrees}
 
 module _ (c : List Settlement) (d : Day) (taken : ℕ → ℕ) (l : Book) (s : List Point) (h : Sound l) (a : Agrees c d taken l s) where
-  pub read_agrees : (k v : ℕ) → Agrees c d (λ j. cond (is_ok (read_answer l s k v) && eqb k j) v (taken j)) (read_book l s k v) (read_sheet l s k v)
+  pub read_agrees : (k v : ℕ) → let r = reading_at l s k v in Agrees c d (λ j. cond (is_ok r.answer && eqb k j) v (taken j)) r.book r.rows
   read_agrees k v =
       let slip = l.counts.readings + 1 in
       by_option
-      (λ o. Agrees c d (λ j. cond (is_ok (answered {A = Slip} o (record { number = slip; point = k })) && eqb k j) v (taken j)) (unless o (with_counts l (one_more_reading l.counts)) l) (unless o (set s k (slipped (row_at s k) slip v)) s))
+      (λ o. let r = tested o l s (reading_done l s k v) in Agrees c d (λ j. cond (is_ok r.answer && eqb k j) v (taken j)) r.book r.rows)
       (read_fault l s k v)
       (λ e.
       let f = reads l s k v e in
@@ -63,12 +63,12 @@ module _ (c : List Settlement) (d : Day) (taken : ℕ → ℕ) (l : Book) (s : L
         consumed = consumed_booked c k (taken k) t (row_correction p) (correction_is c k (taken k) p (r.kept some) r.agrees) a.consumed;
       }
 
-  pub book_agrees : (w : Slip) → Agrees (accepted (book_answer l s w) (booked w.point (taken w.point) (trader_of c w.point) (told_in (book_answer l s w)) ∷ c) c) d taken (book_book l s w) (book_sheet l s w)
+  pub book_agrees : (w : Slip) → let r = booking l s w in Agrees (accepted r.answer (booked w.point (taken w.point) (trader_of c w.point) (told_in r.answer) ∷ c) c) d taken r.book r.rows
   book_agrees w =
       let k = w.point in
       let p = row_at s k in
       by_option
-      (λ o. Agrees (accepted (handed_back o w (row_correction p)) (booked k (taken k) (trader_of c k) (told_in (handed_back o w (row_correction p))) ∷ c) c) d taken (unless o (booked_book l p) l) (unless o (set s k (booked_row p p.trader)) s))
+      (λ o. let r = tested_for w o l s (booked_to l s w p.trader) in Agrees (accepted r.answer (booked k (taken k) (trader_of c k) (told_in r.answer) ∷ c) c) d taken r.book r.rows)
       (book_fault l s w)
       (λ e.
       let b = books l s w e in
@@ -77,20 +77,18 @@ module _ (c : List Settlement) (d : Day) (taken : ℕ → ℕ) (l : Book) (s : L
       (booked_agrees w p.trader b b.owned))
       (λ why. a)
 
-  pub hand_agrees : (w : Slip) (t : ℕ) → Agrees (accepted (hand_answer l s w t) (booked w.point (taken w.point) t (told_in (hand_answer l s w t)) ∷ c) c) d taken (hand_book l s w t) (hand_sheet l s w t)
+  pub hand_agrees : (w : Slip) (t : ℕ) → let r = handing_over l s w t in Agrees (accepted r.answer (booked w.point (taken w.point) t (told_in r.answer) ∷ c) c) d taken r.book r.rows
   hand_agrees w t =
-      let k = w.point in
-      let p = row_at s k in
       by_option
-      (λ o. Agrees (accepted (handed_back o w (row_correction p)) (booked k (taken k) t (told_in (handed_back o w (row_correction p))) ∷ c) c) d taken (unless o (booked_book l p) l) (unless o (set s k (booked_row p t)) s))
+      (λ o. let r = tested_for w o l s (booked_to l s w t) in Agrees (accepted r.answer (booked w.point (taken w.point) t (told_in r.answer) ∷ c) c) d taken r.book r.rows)
       (hand_fault l s w t)
       (λ e. let f = hands_over l s w t e in booked_agrees w t f.books f.trader)
       (λ why. a)
 
-  pub withdraw_agrees : (w : Slip) → Agrees c d taken l (withdraw_sheet l s w)
+  pub withdraw_agrees : (w : Slip) → let r = withdrawal l s w in Agrees c d taken r.book r.rows
   withdraw_agrees w =
       let k = w.point in
-      by_unless (λ u. Agrees c d taken l u) (withdraw_fault l s w) (set s k (slipped (row_at s k) 0 0)) s
+      by_option (λ o. let r = tested_for w o l s (withdrawal_done l s w) in Agrees c d taken r.book r.rows) (withdraw_fault l s w)
       (λ e.
       record {
         today = a.today;
@@ -101,4 +99,4 @@ module _ (c : List Settlement) (d : Day) (taken : ℕ → ℕ) (l : Book) (s : L
         fair = a.fair;
         consumed = a.consumed;
       })
-      a
+      (λ why. a)

@@ -7,9 +7,10 @@ use Rattle.ledger.specs.declared.day.Phase.TheVariants.{Idle, Open, Measured}
 use Rattle.rows.specs.declared.point.Point.{Point}
 use Rattle.ledger.specs.Accounts.{Sound, pending}
 use Rattle.ledger.specs.Days.{is_idle}
-use Rattle.ledger.specs.History.{History, Event, TraderAdmitted, PointAdmitted, Opened, Entered, InflowTaken, Shared, OpenAbandoned, MeasuredAbandoned, PointRead, Booked, HandedOver, Withdrawn, Step, Makes, Leads, start, next}
+use Rattle.ledger.specs.History.{History, Event, TraderAdmitted, PointAdmitted, Opened, Entered, InflowTaken, Shared, OpenAbandoned, MeasuredAbandoned, PointRead, Booked, HandedOver, Withdrawn, Makes, Leads, start, next}
+use Rattle.ledger.specs.Outcomes.{Outcome, Became}
 use Rattle.ledger.proofs.Keep.{new_sound, admit_sound, point_sound, open_sound, enter_sound, inflow_sound, share_sound, abandon_open_sound, abandon_measured_sound}
-use Rattle.ledger.proofs.KeepReadings.{read_sound, book_sound, hand_sound}
+use Rattle.ledger.proofs.KeepReadings.{read_sound, book_sound, hand_sound, withdraw_sound}
 use Rattle.year.specs.Settlements.{settlements, last_day, last_reading}
 use Rattle.year.specs.Law.{YearLaw}
 use Rattle.year.proofs.Sheets.{sheet_own, sheet_ready}
@@ -32,7 +33,7 @@ sound_step (MeasuredAbandoned d r) l l' s s' h m = subst Sound (sym m.state) (ab
 sound_step (PointRead k v r) l l' s s' h m = subst Sound (sym m.state) (read_sound l s k v h)
 sound_step (Booked w r) l l' s s' h m = subst Sound (sym m.state) (book_sound l s w h)
 sound_step (HandedOver w t r) l l' s s' h m = subst Sound (sym m.state) (hand_sound l s w t h)
-sound_step (Withdrawn w r) l l' s s' h m = subst Sound (sym m.state) h
+sound_step (Withdrawn w r) l l' s s' h m = subst Sound (sym m.state) (withdraw_sound l s w h)
 
 pub sound_run : (h : History) (l : Book) (s : List Point) → Leads h l s → Sound l
 sound_run h l s (start first u) = new_sound first
@@ -45,9 +46,9 @@ abbrev Agree : History → Book → List Point → Type 0
 Agree h l s = Agrees (settlements h) (last_day h) (last_reading h) l s
 
 -- a step's answer, ledger and sheet put in the place of what its rule gives
-stepped : {R : Type 0} (P : R → Book → List Point → Type 0) {r want : R} {l' l : Book} {s' s : List Point} → Step r want l' l s' s → P want l s → P r l' s'
-stepped P {r} {want} {l'} {l} {s'} {s} m a =
-    subst (λ v. P v l' s') (sym m.answer) (subst (λ b. P want b s') (sym m.state) (subst (P want l) (sym m.rows) a))
+stepped : {R : Type 0} (P : R → Book → List Point → Type 0) {o : Outcome R} {r : R} {l : Book} {s : List Point} → Became o r l s → P o.answer o.book o.rows → P r l s
+stepped P {o} {r} {l} {s} m a =
+    subst (λ v. P v l s) (sym m.answer) (subst (λ b. P o.answer b s) (sym m.state) (subst (P o.answer o.book) (sym m.rows) a))
 
 agrees_step : (e : Event) (h : History) (l l' : Book) (s s' : List Point) → Sound l → Agree h l s → Makes e l s l' s' → Agree (e ∷ h) l' s'
 agrees_step (TraderAdmitted r) h l l' s s' so a m = stepped (λ v. Agree (TraderAdmitted v ∷ h)) m (admit_agrees _ _ _ l s so a)

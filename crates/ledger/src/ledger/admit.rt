@@ -2,7 +2,7 @@
 ghost use Rattle.std.specs.Prelude.{◌≡◌, List};
 ghost use Rattle.ledger.specs.Days.{admit_answer, admit_book, point_fault, point_answer, point_book, point_sheet};
 ghost use Rattle.ledger.specs.Grounds.{answered};
-ghost use Rattle.ledger.specs.History.{Goes, TraderAdmitted, PointAdmitted};
+ghost use Rattle.ledger.specs.History.{Makes, TraderAdmitted, PointAdmitted};
 ghost use Rattle.rows.specs.declared.point.Point.{Point as Row};
 
 use super::Ledger;
@@ -15,7 +15,7 @@ impl Ledger {
     pub fn admit_trader(&mut self) -> Result<u32, Refusal>
         ensures answer { result ≡ admit_answer self.old.book }
         ensures state { self.new.book ≡ admit_book self.old.book }
-        ensures run { (s : List Row) → Goes (TraderAdmitted result) self.old.book s self.new.book s }
+        ensures run { (s : List Row) → Makes (TraderAdmitted result) self.old.book s self.new.book s }
     {
         let number = self.book.counts.traders;
         if number >= MAX_TRADERS {
@@ -44,7 +44,7 @@ impl Ledger {
         ensures answer { result ≡ point_answer self.old.book sheet.old given }
         ensures state { self.new.book ≡ point_book self.old.book sheet.old given }
         ensures rows { sheet.new ≡ point_sheet self.old.book sheet.old given }
-        ensures run { Goes (PointAdmitted given result) self.old.book sheet.old self.new.book sheet.new }
+        ensures run { Makes (PointAdmitted given result) self.old.book sheet.old self.new.book sheet.new }
     {
         self.check_point(sheet, given)?;
         let number = self.book.counts.points;

@@ -4,7 +4,7 @@ ghost use Rattle.ledger.specs.Accounts.{metered_sum};
 ghost use Rattle.ledger.specs.Days.{open_fault, open_answer, open_book, enter_fault, enter_answer, enter_book, loss_of, inflow_fault, inflow_answer, inflow_book};
 ghost use Rattle.ledger.specs.Days.{ended, abandon_fault, abandon_open_answer, abandon_open_book, abandon_measured_answer, abandon_measured_book};
 ghost use Rattle.ledger.specs.Grounds.{answered, handed_back, unless};
-ghost use Rattle.ledger.specs.History.{Goes, Opened, Entered, InflowTaken, OpenAbandoned, MeasuredAbandoned};
+ghost use Rattle.ledger.specs.History.{Makes, Opened, Entered, InflowTaken, OpenAbandoned, MeasuredAbandoned};
 ghost use Rattle.rows.specs.declared.point.Point.{Point as Row};
 
 use super::Ledger;
@@ -36,7 +36,7 @@ impl Ledger {
     pub fn open(&mut self, weather: Weather) -> Result<OpenDay, Refusal>
         ensures answer { result ≡ open_answer self.old.book weather.temperature weather.season }
         ensures state { self.new.book ≡ open_book self.old.book weather.temperature weather.season }
-        ensures run { (s : List Row) → Goes (Opened weather.temperature weather.season result) self.old.book s self.new.book s }
+        ensures run { (s : List Row) → Makes (Opened weather.temperature weather.season result) self.old.book s self.new.book s }
     {
         self.check_opening(weather)?;
         let number = self.book.counts.opened + 1;
@@ -73,7 +73,7 @@ impl Ledger {
     pub fn enter(&mut self, day: &OpenDay, trader: u32, litres: u64) -> Result<(), Refusal>
         ensures answer { result ≡ enter_answer self.old.book day.now trader litres }
         ensures state { self.new.book ≡ enter_book self.old.book day.now trader litres }
-        ensures run { (s : List Row) → Goes (Entered day.now trader litres result) self.old.book s self.new.book s }
+        ensures run { (s : List Row) → Makes (Entered day.now trader litres result) self.old.book s self.new.book s }
     {
         self.check_entry(day, trader, litres)?;
         self.book.traders[trader as usize].metered += litres;
@@ -104,7 +104,7 @@ impl Ledger {
     ) -> Result<MeasuredDay, Refused<OpenDay>>
         ensures answer { result ≡ inflow_answer self.old.book day inflow rate }
         ensures state { self.new.book ≡ inflow_book self.old.book day inflow rate }
-        ensures run { (s : List Row) → Goes (InflowTaken day inflow rate result) self.old.book s self.new.book s }
+        ensures run { (s : List Row) → Makes (InflowTaken day inflow rate result) self.old.book s self.new.book s }
     {
         if let Err(why) = self.check_inflow(&day, inflow, rate) {
             return Err(Refused { why, given: day });
@@ -144,7 +144,7 @@ impl Ledger {
     pub fn abandon_open(&mut self, day: OpenDay) -> Result<(), Refused<OpenDay>>
         ensures answer { result ≡ abandon_open_answer self.old.book day }
         ensures state { self.new.book ≡ abandon_open_book self.old.book day }
-        ensures run { (s : List Row) → Goes (OpenAbandoned day result) self.old.book s self.new.book s }
+        ensures run { (s : List Row) → Makes (OpenAbandoned day result) self.old.book s self.new.book s }
     {
         self.abandon(day)
     }
@@ -153,7 +153,7 @@ impl Ledger {
     pub fn abandon_measured(&mut self, day: MeasuredDay) -> Result<(), Refused<MeasuredDay>>
         ensures answer { result ≡ abandon_measured_answer self.old.book day }
         ensures state { self.new.book ≡ abandon_measured_book self.old.book day }
-        ensures run { (s : List Row) → Goes (MeasuredAbandoned day result) self.old.book s self.new.book s }
+        ensures run { (s : List Row) → Makes (MeasuredAbandoned day result) self.old.book s self.new.book s }
     {
         self.abandon(day)
     }

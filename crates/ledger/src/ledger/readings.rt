@@ -2,12 +2,11 @@
 // the point, each by itself: both are the caller's (a rule of the project).
 ghost use Rattle.std.specs.Prelude.{◌≡◌, ◌+◌, ◌<◌, Some, None, IfOk, IfErr};
 ghost use Rattle.ledger.specs.Grounds.{answered};
-ghost use Rattle.ledger.specs.History.{Goes, PointRead, Booked, HandedOver, Withdrawn};
+ghost use Rattle.ledger.specs.History.{Makes, PointRead, Booked, HandedOver, Withdrawn};
+ghost use Rattle.ledger.specs.Outcomes.{Became, ended};
 ghost use Rattle.rows.specs.Bookings.{row_correction};
-ghost use Rattle.ledger.specs.Readings.{booked_book};
-ghost use Rattle.ledger.specs.Readings.{read_fault, read_answer, read_book, read_sheet, book_fault, book_answer, book_book, book_sheet};
-ghost use Rattle.ledger.specs.Readings.{hand_fault, hand_answer, hand_book, hand_sheet, withdraw_fault, withdraw_answer, withdraw_sheet};
-ghost use Rattle.ledger.specs.Readings.{row_fault};
+ghost use Rattle.ledger.specs.Readings.{booked_book, row_fault, read_fault, reading_at, book_fault, booking};
+ghost use Rattle.ledger.specs.Readings.{hand_fault, handing_over, withdraw_fault, withdrawal};
 ghost use Rattle.rows.specs.Rows.{row_at};
 
 use super::Ledger;
@@ -49,10 +48,8 @@ impl Ledger {
 
     // Reads a point: its row keeps the reading until the slip ends.
     pub fn read(&mut self, sheet: &mut [Point], point: usize, reading: u32) -> Result<Slip, Refusal>
-        ensures answer { result ≡ read_answer self.old.book sheet.old point reading }
-        ensures state { self.new.book ≡ read_book self.old.book sheet.old point reading }
-        ensures rows { sheet.new ≡ read_sheet self.old.book sheet.old point reading }
-        ensures run { Goes (PointRead point reading result) self.old.book sheet.old self.new.book sheet.new }
+        ensures became { Became (reading_at self.old.book sheet.old point reading) result self.new.book sheet.new }
+        ensures run { Makes (PointRead point reading result) self.old.book sheet.old self.new.book sheet.new }
     {
         let row = self.readable(sheet, point, reading)?;
         let number = self.book.counts.readings + 1;
@@ -92,10 +89,7 @@ impl Ledger {
 
     // Books a reading: the correction is added to the trader's account and taken from the distributor's.
     pub fn book(&mut self, sheet: &mut [Point], slip: Slip) -> Result<i64, Refused<Slip>>
-        ensures answer { result ≡ book_answer self.old.book sheet.old slip }
-        ensures state { self.new.book ≡ book_book self.old.book sheet.old slip }
-        ensures rows { sheet.new ≡ book_sheet self.old.book sheet.old slip }
-        ensures run { Goes (Booked slip result) self.old.book sheet.old self.new.book sheet.new }
+        ensures run { Makes (Booked slip result) self.old.book sheet.old self.new.book sheet.new }
     {
         match self.bookable(sheet, &slip) {
             Err(why) => Err(Refused { why, given: slip }),
@@ -130,10 +124,7 @@ impl Ledger {
         slip: Slip,
         trader: u32,
     ) -> Result<i64, Refused<Slip>>
-        ensures answer { result ≡ hand_answer self.old.book sheet.old slip trader }
-        ensures state { self.new.book ≡ hand_book self.old.book sheet.old slip trader }
-        ensures rows { sheet.new ≡ hand_sheet self.old.book sheet.old slip trader }
-        ensures run { Goes (HandedOver slip trader result) self.old.book sheet.old self.new.book sheet.new }
+        ensures run { Makes (HandedOver slip trader result) self.old.book sheet.old self.new.book sheet.new }
     {
         match self.transferable(sheet, &slip, trader) {
             Err(why) => Err(Refused { why, given: slip }),
@@ -159,9 +150,7 @@ impl Ledger {
 
     // Withdraws a reading: the slip ends and nothing is booked.
     pub fn withdraw(&self, sheet: &mut [Point], slip: Slip) -> Result<(), Refused<Slip>>
-        ensures answer { result ≡ withdraw_answer self.now.book sheet.old slip }
-        ensures rows { sheet.new ≡ withdraw_sheet self.now.book sheet.old slip }
-        ensures run { Goes (Withdrawn slip result) self.now.book sheet.old self.now.book sheet.new }
+        ensures whole { ended result self.now.book sheet.new ≡ withdrawal self.now.book sheet.old slip }
     {
         match self.withdrawable(sheet, &slip) {
             Err(why) => Err(Refused { why, given: slip }),

@@ -1,7 +1,6 @@
 use Rattle.std.proofs.Common.{rules, arith}
 use Rattle.std.proofs.lemmas.Grind.{common_steps}
 use Rattle.rows.specs.declared.point.Point.{Point}
-use Rattle.ledger.specs.History.{next}
 use Rattle.ledger.specs.Readings.{book_fault}
 use Rattle.ledger.proofs.AcceptedReadings.{books}
 use Rattle.ledger.proofs.Booking.{booked_step}
@@ -15,9 +14,6 @@ book_row-told-requires-clause-owned c =
     let k = c.in-Ok.ensures.ok in
     rw k.1 (books l s slip k.0).owned
 
-pub returns-in-Err-clause-run : goal.returns-in-Err-clause-run
-returns-in-Err-clause-run c = λ h p. next p (record { answer = grind (arith, common_steps); state = grind (arith, common_steps); rows = grind (arith, common_steps) })
-
 pub returns-in-Ok : goal.returns-in-Ok
 returns-in-Ok c =
     let l = c.args.self.now.book in
@@ -26,4 +22,4 @@ returns-in-Ok c =
     let k = c.in-Ok.ensures.ok in
     let b = c.book_row-told.ensures in
     let e = booked_step l s slip (book_fault l s slip) c.in-Ok.fit.row k.0 k.1 (λ (r : Point). r.trader) c.book_row-told.result c.book_row-told.new.self.book c.booked.result (search rules) b.told b.state c.booked.ensures in
-    record { answer = e.answer; state = e.state; rows = e.rows; run = λ h p. next p e }
+    record { run = e }

@@ -1,8 +1,6 @@
-use Rattle.std.proofs.Common.{◌≡◌, ◌+◌, Err, refl, ◌∙◌, rules, arith}
-use Rattle.std.proofs.lemmas.Grind.{common_steps}
+use Rattle.std.proofs.Common.{◌≡◌, ◌+◌, Err, refl, ◌∙◌, rules}
 use Rattle.ledger.specs.Accounts.{with_counts, with_phase}
 use Rattle.ledger.specs.Days.{open_fault, one_more_opened}
-use Rattle.ledger.specs.History.{next}
 use Rattle.ledger.specs.declared.day.OpenDay.{OpenDay}
 use Rattle.ledger.specs.declared.day.Phase.TheVariants.{Open}
 use Rattle.ledger.proofs.Grounds.{stays}
@@ -18,7 +16,4 @@ returns-in_err-check_opening c =
     let kept = stays (open_fault l w.temperature w.season) tt day (with_phase (with_counts l (one_more_opened l.counts)) (Open n w)) l why c.in_err-check_opening.ensures in
     let told : c.from_residual.result ≡ Err why = search rules in
     let answer = told ∙ kept.0 in
-    record { answer = answer; state = kept.1; run = λ s h p. next p (record { answer = answer; state = kept.1; rows = refl }) }
-
-pub returns-clause-run : goal.returns-clause-run
-returns-clause-run c = λ s h p. next p (record { answer = grind (arith, common_steps); state = grind (arith, common_steps); rows = refl })
+    record { answer = answer; state = kept.1; run = λ s. record { answer = answer; state = kept.1; rows = refl } }

@@ -10,7 +10,7 @@ pub returns-in-Book : goal.returns-in-Book
 returns-in-Book c =
     let l = c.args.ledger.now.book in
     let f = book_fault l c.args.sheet.now c.args.slip in
-    let e = c.book.ensures in
+    let e = c.book.ensures.became in
     record {
       slip = same_token f c.args.slip _ _ e.answer;
       points = stays (λ (b : Book). b.counts.points) f _ l _ e.state refl;
@@ -21,7 +21,7 @@ pub returns-in-HandOver : goal.returns-in-HandOver
 returns-in-HandOver c =
     let l = c.args.ledger.now.book in
     let f = hand_fault l c.args.sheet.now c.args.slip c.in-HandOver.trader in
-    let e = c.hand_over.ensures in
+    let e = c.hand_over.ensures.became in
     record {
       slip = same_token f c.args.slip _ _ e.answer;
       points = stays (λ (b : Book). b.counts.points) f _ l _ e.state refl;
@@ -31,5 +31,5 @@ returns-in-HandOver c =
 pub returns-in-Withdraw : goal.returns-in-Withdraw
 returns-in-Withdraw c =
     let f = withdraw_fault c.args.ledger.now.book c.args.sheet.now c.args.slip in
-    let back = same_token f c.args.slip _ _ c.withdraw.ensures.answer in
+    let back = same_token f c.args.slip _ _ c.withdraw.ensures.became.answer in
     record { slip = grind (arith, common_steps); points = refl; day = refl }

@@ -8,7 +8,7 @@ pub returns : goal.returns
 returns c =
     let l = c.args.ledger.now.book in
     let s = c.args.sheet.now in
-    let e = c.read.ensures in
+    let e = c.read.ensures.became in
     record {
       slip = made l s c.args.point c.args.dial _ _ e.answer e.state;
       day = stays (λ (b : Book). b.phase) (read_fault l s c.args.point c.args.dial) _ l _ e.state refl;
