@@ -1,101 +1,92 @@
--- The calls of a ledger but for the share-out: when each is refused, what it answers, and what there is then.
-use Rattle.std.specs.Prelude.{ℕ, ◌+◌, ◌-◌, ◌*◌, ◌/◌, Bool, true, false, not, ◌||◌, List, [], ◌∷◌, map, length, ℤ, pos, Option, Result, ◌==◌, nat_le, nat_lt, slice_set}
+-- The calls of a ledger but for the share-out and the readings: when each is refused, and its
+-- outcome.
+use Rattle.std.specs.Prelude.{ℕ, ◌+◌, ◌-◌, ◌*◌, ◌/◌, Bool, true, false, not, ◌||◌, List, [], ◌∷◌, map, length, take, ℤ, pos, Option, Result, ◌==◌, nat_le, nat_lt, slice_set, sum_by, Ok, Err}
+use Rattle.std.specs.List.{list_all}
 use Rattle.refusals.specs.declared.Refusal.{Refusal}
 use Rattle.refusals.specs.declared.Refusal.TheVariants.{PointSheetLength, NoSuchTrader, Weather, Litres, Particulars, ForeignSheet, NotRunning, DayRunning, NoMoreDays, TooMuchMetered, InflowTooSmall, NoPlace}
-use Rattle.profiles.specs.Asked.{within}
+use Rattle.refusals.specs.declared.Refused.{Refused}
+use Rattle.profiles.specs.declared.weather.Weather.{Weather as DayWeather}
+use Rattle.profiles.specs.Asked.{is_in_range}
+use Rattle.rows.specs.declared.point.Particulars.{Particulars as Given}
+use Rattle.rows.specs.declared.point.Point.{Point}
+use Rattle.rows.specs.Limits.{max_traders}
+use Rattle.rows.specs.Rows.{sheet_fits, particulars_fit, admitted_row, is_summable, open_sum_of}
 use Rattle.ledger.specs.declared.book.Book.{Book}
-use Rattle.ledger.specs.declared.book.Counts.{Counts}
 use Rattle.ledger.specs.declared.day.OpenDay.{OpenDay}
 use Rattle.ledger.specs.declared.day.MeasuredDay.{MeasuredDay}
 use Rattle.ledger.specs.declared.day.Phase.{Phase}
 use Rattle.ledger.specs.declared.day.Phase.TheVariants.{Idle, Open, Measured}
-use Rattle.refusals.specs.declared.Refused.{Refused}
-use Rattle.profiles.specs.declared.weather.Weather.{Weather as Sky}
-use Rattle.rows.specs.declared.point.Particulars.{Particulars as Given}
-use Rattle.rows.specs.declared.point.Point.{Point}
-use Rattle.ledger.specs.Accounts.{account_at, metered_at, metered_sum, entered, unmetered, with_traders, with_counts, with_phase}
-use Rattle.ledger.specs.Grounds.{first_ground, answered, handed_back, unless}
-use Rattle.rows.specs.Limits.{max_traders}
+use Rattle.ledger.specs.Accounts.{account_at, metered_at, metered_sum, with_metered, unmetered_trader}
+use Rattle.ledger.specs.Grounds.{first_ground, call_answer}
 use Rattle.ledger.specs.Limits.{max_litres, max_rate, max_shared, max_opened, last_day}
-use Rattle.rows.specs.Rows.{sheet_fits, particulars_fit, admitted_row, every, summable, open_sums}
+use Rattle.ledger.specs.Outcomes.{Outcome, call_outcome, token_outcome}
+use Rattle.ledger.specs.Tokens.{DayToken, is_running, is_open, is_idle, weather_of}
 
 -- Admitting a trader.
 
-abbrev pub one_more_trader : Counts → Counts
-one_more_trader c = record c { traders = c.traders + 1 }
+abbrev pub trader_admission_fault : Book → Option Refusal
+trader_admission_fault l = first_ground ((nat_le max_traders l.counts.traders, NoPlace) ∷ [])
 
-abbrev pub admit_fault : Book → Option Refusal
-admit_fault l = first_ground ((nat_le max_traders l.counts.traders, NoPlace) ∷ [])
+abbrev pub accepted_trader : Book → List Point → Outcome ℕ
+accepted_trader l s =
+    record {
+      answer = l.counts.traders;
+      book = record l { counts = record l.counts { traders = l.counts.traders + 1 } };
+      rows = s;
+    }
 
-abbrev pub admit_answer : Book → Result ℕ Refusal
-admit_answer l = answered (admit_fault l) l.counts.traders
-
-abbrev pub admit_book : Book → Book
-admit_book l = unless (admit_fault l) (with_counts l (one_more_trader l.counts)) l
+abbrev pub trader_admission : Book → List Point → Outcome (Result ℕ Refusal)
+trader_admission l s = call_outcome (trader_admission_fault l) l s (accepted_trader l s)
 
 -- Admitting a point.
 
-abbrev pub one_more_point : Counts → Counts
-one_more_point c = record c { points = c.points + 1 }
-
-abbrev pub point_fault : Book → List Point → Given → Option Refusal
-point_fault l s g =
+abbrev pub point_admission_fault : Book → List Point → Given → Option Refusal
+point_admission_fault l s given =
     first_ground
     ((not (sheet_fits l.counts.points s), PointSheetLength)
-    ∷ (nat_le l.counts.traders g.trader, NoSuchTrader)
-    ∷ (not (particulars_fit g.segment g.digits g.litres_per_unit g.reading g.scale_factor), Particulars)
+    ∷ (nat_le l.counts.traders given.trader, NoSuchTrader)
+    ∷ (not (particulars_fit given), Particulars)
     ∷ (nat_le (length s) l.counts.points, NoPlace)
     ∷ [])
 
-abbrev pub point_answer : Book → List Point → Given → Result ℕ Refusal
-point_answer l s g = answered (point_fault l s g) l.counts.points
+abbrev pub accepted_point : Book → List Point → Given → Outcome ℕ
+accepted_point l s given =
+    record {
+      answer = l.counts.points;
+      book = record l { counts = record l.counts { points = l.counts.points + 1 } };
+      rows = slice_set s l.counts.points (admitted_row given);
+    }
 
-abbrev pub point_book : Book → List Point → Given → Book
-point_book l s g = unless (point_fault l s g) (with_counts l (one_more_point l.counts)) l
-
-abbrev pub point_sheet : Book → List Point → Given → List Point
-point_sheet l s g = unless (point_fault l s g) (slice_set s l.counts.points (admitted_row g)) s
+abbrev pub point_admission : Book → List Point → Given → Outcome (Result ℕ Refusal)
+point_admission l s given =
+    call_outcome (point_admission_fault l s given) l s (accepted_point l s given)
 
 -- Opening a day.
 
-abbrev pub is_idle : Phase → Bool
-is_idle Idle = true
-is_idle (Open n w) = false
-is_idle (Measured n w g x q) = false
-
-abbrev pub one_more_opened : Counts → Counts
-one_more_opened c = record c { opened = c.opened + 1 }
-
-abbrev pub open_fault : Book → ℤ → ℕ → Option Refusal
-open_fault l temperature season =
+abbrev pub opening_fault : Book → DayWeather → Option Refusal
+opening_fault l weather =
     first_ground
-    ((not (within temperature season), Weather)
+    ((not (is_in_range weather), Weather)
     ∷ (not (is_idle l.phase), DayRunning)
     ∷ (nat_le max_shared l.counts.shared || (nat_le max_opened l.counts.opened || nat_lt last_day l.next_day), NoMoreDays)
     ∷ [])
 
-abbrev pub open_answer : Book → ℤ → ℕ → Result OpenDay Refusal
-open_answer l temperature season = answered (open_fault l temperature season) (record { number = l.counts.opened + 1 })
+abbrev pub accepted_opening : Book → List Point → DayWeather → Outcome OpenDay
+accepted_opening l s weather =
+    let number = l.counts.opened + 1 in
+    record {
+      answer = record { number = number };
+      book = record l { counts = record l.counts { opened = number }; phase = Open number weather };
+      rows = s;
+    }
 
-abbrev pub sky_of : ℤ → ℕ → Sky
-sky_of temperature season = record { temperature = temperature; season = season }
-
-abbrev pub open_book : Book → ℤ → ℕ → Book
-open_book l temperature season =
-    unless (open_fault l temperature season)
-    (with_phase (with_counts l (one_more_opened l.counts)) (Open (l.counts.opened + 1) (sky_of temperature season)))
-    l
+abbrev pub opening : Book → List Point → DayWeather → Outcome (Result OpenDay Refusal)
+opening l s weather = call_outcome (opening_fault l weather) l s (accepted_opening l s weather)
 
 -- Entering metered litres.
 
--- the running day is open and has this number
-abbrev pub is_open : Phase → ℕ → Bool
-is_open Idle k = false
-is_open (Open n w) k = n == k
-is_open (Measured n w g x q) k = false
-
-abbrev pub enter_fault : Book → OpenDay → ℕ → ℕ → Option Refusal
-enter_fault l day t litres =
+abbrev pub entry_fault : Book → OpenDay → ℕ → ℕ → Option Refusal
+entry_fault l day t litres =
     first_ground
     ((nat_le l.counts.traders t, NoSuchTrader)
     ∷ (nat_lt max_litres litres, Litres)
@@ -103,13 +94,15 @@ enter_fault l day t litres =
     ∷ (nat_lt max_litres (metered_sum l.traders + litres), TooMuchMetered)
     ∷ [])
 
-abbrev pub enter_answer : Book → OpenDay → ℕ → ℕ → Result Unit Refusal
-enter_answer l day t litres = answered (enter_fault l day t litres) tt
+abbrev pub accepted_entry : Book → List Point → ℕ → ℕ → Outcome Unit
+accepted_entry l s t litres =
+    record { answer = tt; book = record l { traders = with_metered l.traders t litres }; rows = s }
 
-abbrev pub enter_book : Book → OpenDay → ℕ → ℕ → Book
-enter_book l day t litres = unless (enter_fault l day t litres) (with_traders l (entered l.traders t litres)) l
+abbrev pub metered_entry : Book → List Point → OpenDay → ℕ → ℕ → Outcome (Result Unit Refusal)
+metered_entry l s day t litres =
+    call_outcome (entry_fault l day t litres) l s (accepted_entry l s t litres)
 
--- Taking the inflow.
+-- Taking the inflow, which measures the day.
 
 -- the network loss of an inflow at a rate in millionths
 abbrev pub loss_of : ℕ → ℕ → ℕ
@@ -119,81 +112,66 @@ loss_of inflow rate = inflow * rate / 1_000_000
 abbrev pub quantity_of : ℕ → ℕ → ℕ → ℕ
 quantity_of inflow rate metered = inflow - loss_of inflow rate - metered
 
-abbrev pub sky_in : Phase → Sky
-sky_in Idle = sky_of (pos 0) 0
-sky_in (Open n w) = w
-sky_in (Measured n w g x q) = w
-
-abbrev pub inflow_fault : Book → OpenDay → ℕ → ℕ → Option Refusal
-inflow_fault l day inflow rate =
+abbrev pub measurement_fault : Book → OpenDay → ℕ → ℕ → Option Refusal
+measurement_fault l day inflow rate =
     first_ground
     ((nat_lt max_litres inflow || nat_lt max_rate rate, Litres)
     ∷ (not (is_open l.phase day.number), NotRunning)
     ∷ (nat_lt inflow (loss_of inflow rate + metered_sum l.traders), InflowTooSmall)
     ∷ [])
 
-abbrev pub inflow_answer : Book → OpenDay → ℕ → ℕ → Result MeasuredDay (Refused OpenDay)
-inflow_answer l day inflow rate = handed_back (inflow_fault l day inflow rate) day (record { number = day.number })
+abbrev pub accepted_measurement : Book → List Point → OpenDay → ℕ → ℕ → Outcome MeasuredDay
+accepted_measurement l s day inflow rate =
+    let loss = loss_of inflow rate in
+    let quantity = quantity_of inflow rate (metered_sum l.traders) in
+    record {
+      answer = record { number = day.number };
+      book = record l { phase = Measured day.number (weather_of l.phase) inflow loss quantity };
+      rows = s;
+    }
 
-abbrev pub inflow_book : Book → OpenDay → ℕ → ℕ → Book
-inflow_book l day inflow rate =
-    unless (inflow_fault l day inflow rate)
-    (with_phase l
-    (Measured day.number (sky_in l.phase) inflow (loss_of inflow rate) (quantity_of inflow rate (metered_sum l.traders))))
-    l
+abbrev pub measurement : Book → List Point → OpenDay → ℕ → ℕ → Outcome (Result MeasuredDay (Refused OpenDay))
+measurement l s day inflow rate =
+    token_outcome day (measurement_fault l day inflow rate) l s
+    (accepted_measurement l s day inflow rate)
 
--- Abandoning a day, open or measured.
-
--- the running day is measured and has this number
-abbrev pub is_measured : Phase → ℕ → Bool
-is_measured Idle k = false
-is_measured (Open n w) k = false
-is_measured (Measured n w g x q) k = n == k
+-- Abandoning a day.
 
 -- between days: no metered litres, no running day
-abbrev pub ended : Book → Book
-ended l = with_phase (with_traders l (map unmetered l.traders)) Idle
+abbrev pub ended_book : Book → Book
+ended_book l = record l { traders = map unmetered_trader l.traders; phase = Idle }
 
--- by whether the running day is the one that is to end
-abbrev pub abandon_fault : Bool → Option Refusal
-abandon_fault running = first_ground ((not running, NotRunning) ∷ [])
+abbrev pub abandonment_fault : Book → DayToken → Option Refusal
+abandonment_fault l day = first_ground ((not (is_running l.phase day), NotRunning) ∷ [])
 
-abbrev pub abandon_open_fault : Book → OpenDay → Option Refusal
-abandon_open_fault l day = abandon_fault (is_open l.phase day.number)
+abbrev pub accepted_abandonment : Book → List Point → Outcome Unit
+accepted_abandonment l s = record { answer = tt; book = ended_book l; rows = s }
 
-abbrev pub abandon_measured_fault : Book → MeasuredDay → Option Refusal
-abandon_measured_fault l day = abandon_fault (is_measured l.phase day.number)
-
-abbrev pub abandon_open_answer : Book → OpenDay → Result Unit (Refused OpenDay)
-abandon_open_answer l day = handed_back (abandon_open_fault l day) day tt
-
-abbrev pub abandon_measured_answer : Book → MeasuredDay → Result Unit (Refused MeasuredDay)
-abandon_measured_answer l day = handed_back (abandon_measured_fault l day) day tt
-
-abbrev pub abandon_open_book : Book → OpenDay → Book
-abandon_open_book l day = unless (abandon_open_fault l day) (ended l) l
-
-abbrev pub abandon_measured_book : Book → MeasuredDay → Book
-abandon_measured_book l day = unless (abandon_measured_fault l day) (ended l) l
+-- day: what the token stands for; a refusal hands the token back
+abbrev pub abandonment : {T : Type 0} → Book → List Point → DayToken → T → Outcome (Result Unit (Refused T))
+abandonment l s day token =
+    token_outcome token (abandonment_fault l day) l s (accepted_abandonment l s)
 
 -- What a trader has.
 
 abbrev pub trader_fault : Book → ℕ → Option Refusal
 trader_fault l t = first_ground ((nat_le l.counts.traders t, NoSuchTrader) ∷ [])
 
-abbrev pub account_answer : Book → ℕ → Result ℤ Refusal
-account_answer l t = answered (trader_fault l t) (account_at l.traders t)
+abbrev pub account_of : Book → ℕ → Result ℤ Refusal
+account_of l t = call_answer (trader_fault l t) (account_at l.traders t)
 
-abbrev pub metered_answer : Book → ℕ → Result ℕ Refusal
-metered_answer l t = answered (trader_fault l t) (metered_at l.traders t)
+abbrev pub metered_of : Book → ℕ → Result ℕ Refusal
+metered_of l t = call_answer (trader_fault l t) (metered_at l.traders t)
 
 abbrev pub open_quantity_fault : Book → List Point → ℕ → Option Refusal
 open_quantity_fault l s t =
     first_ground
     ((not (sheet_fits l.counts.points s), PointSheetLength)
     ∷ (nat_le l.counts.traders t, NoSuchTrader)
-    ∷ (not (every (summable t) s l.counts.points), ForeignSheet)
+    ∷ (not (list_all (is_summable t) (take l.counts.points s)), ForeignSheet)
     ∷ [])
 
-abbrev pub open_quantity_answer : Book → List Point → ℕ → Result ℕ Refusal
-open_quantity_answer l s t = answered (open_quantity_fault l s t) (open_sums t s l.counts.points)
+-- the open sums of a trader's points together
+abbrev pub open_quantity : Book → List Point → ℕ → Result ℕ Refusal
+open_quantity l s t =
+    call_answer (open_quantity_fault l s t) (sum_by (open_sum_of t) (take l.counts.points s))

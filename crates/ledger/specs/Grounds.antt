@@ -9,13 +9,13 @@ first_ground [] = None
 first_ground (g ∷ gs) = cond g.0 (Some g.1) (first_ground gs)
 
 -- the answer of a call, and of one that hands its token back
-abbrev pub answered : {A : Type 0} → Option Refusal → A → Result A Refusal
-answered None x = Ok x
-answered (Some why) x = Err why
+abbrev pub call_answer : {A : Type 0} → Option Refusal → A → Result A Refusal
+call_answer None x = Ok x
+call_answer (Some why) x = Err why
 
-abbrev pub handed_back : {A T : Type 0} → Option Refusal → T → A → Result A (Refused T)
-handed_back None token x = Ok x
-handed_back (Some why) token x = Err (record { why = why; given = token })
+abbrev pub token_answer : {A T : Type 0} → Option Refusal → T → A → Result A (Refused T)
+token_answer None token x = Ok x
+token_answer (Some why) token x = Err (record { why = why; given = token })
 
 -- what there is after a call: the new where no ground is met, and else the old
 abbrev pub unless : {A : Type 0} → Option Refusal → A → A → A

@@ -1,8 +1,9 @@
 pub mod Limits
-pub mod Accounts
 pub mod Grounds
 pub mod Outcomes
+pub mod Tokens
+pub mod Accounts
 pub mod Days
-pub mod Sharing
 pub mod Readings
+pub mod Sharing
 pub mod History

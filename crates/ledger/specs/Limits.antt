@@ -1,4 +1,4 @@
--- The limits of the ledger, each in this one place.
+-- The limits of the ledger: the numbers of src/limits.rt, stated apart from it.
 use Rattle.std.specs.Prelude.{ℕ}
 
 -- of a day's inflow, of one entry, and of a day's metered litres together

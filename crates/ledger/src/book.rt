@@ -1,11 +1,11 @@
-// The ledger's record, plain and private. What always holds of it is in the type `Ledger`.
+//! The ledger's record, plain and private. What always holds of it is in the type `Ledger`.
 ghost use Rattle.std.specs.Prelude.{◌≡◌, ◌≤◌, map, pos, ◌+ℤ◌, ◌≤ℤ◌};
-ghost use Rattle.ledger.specs.Accounts.{new_book, settled, unmetered};
-ghost use Rattle.ledger.specs.Days.{ended};
+ghost use Rattle.ledger.specs.Accounts.{new_book, settled_trader, unmetered_trader};
+ghost use Rattle.ledger.specs.Days.{ended_book};
 
 use crate::day::Phase;
 
-// One trader: his account, below nought where he owes, and what was metered for him today.
+// One trader: his account in litres, below zero where he owes, and what was metered for him today.
 #[derive(Clone, Copy, Default)]
 pub(crate) struct Trader {
     pub(crate) account: i64,
@@ -15,37 +15,44 @@ pub(crate) struct Trader {
 impl Trader {
     // Some litres join the account.
     pub(crate) fn credit(&mut self, litres: u64)
-        requires { (self.old.account ≤ℤ pos 6_000_000_000_000_000_000) × (litres ≤ 1_000_000_000) }
-        ensures { self.new ≡ record { account = self.old.account +ℤ pos litres; metered = self.old.metered } }
+        requires account { self.old.account ≤ℤ pos 6_000_000_000_000_000_000 }
+        requires litres { litres ≤ 1_000_000_000 }
+        ensures { self.new ≡ record self.old { account = self.old.account +ℤ pos litres } }
     {
-        // A cast: there is no `From` of u64 for i64.
         self.account += litres as i64;
     }
 
     // The metered sum of today moves to the account.
     pub(crate) fn settle(&mut self)
-        requires { (self.old.account ≤ℤ pos 6_000_000_000_000_000_000) × (self.old.metered ≤ 1_000_000_000) }
-        ensures { self.new ≡ settled self.old }
+        requires account { self.old.account ≤ℤ pos 6_000_000_000_000_000_000 }
+        requires metered { self.old.metered ≤ 1_000_000_000 }
+        ensures { self.new ≡ settled_trader self.old }
     {
         self.credit(self.metered);
         self.metered = 0;
     }
 }
 
-// How many there have been: traders and points admitted, days opened and shared out, readings, and bookings with hand-overs.
+/// How many there have been.
 #[derive(Clone, Copy, PartialEq, Default)]
 pub struct Counts {
+    /// Traders admitted.
     pub traders: u32,
+    /// Points admitted.
     pub points: usize,
+    /// Days opened.
     pub opened: u32,
+    /// Days shared out.
     pub shared: u32,
+    /// Readings taken.
     pub readings: u32,
+    /// Readings booked, with the hand-overs.
     pub bookings: u32,
 }
 
 #[derive(Drop)]
 pub(crate) struct Book {
-    // A rule of the project: a plain array, of which the first `counts.traders` places are admitted.
+    // the first `counts.traders` places are admitted
     pub(crate) traders: [Trader; 64],
     pub(crate) counts: Counts,
     pub(crate) loss: u64,
@@ -70,7 +77,7 @@ impl Book {
 
     // Ends the running day with nothing settled.
     pub(crate) fn end_day(&mut self)
-        ensures { self.new ≡ ended self.old }
+        ensures { self.new ≡ ended_book self.old }
     {
         clear_metered(&mut self.traders);
         self.phase = Phase::Idle;
@@ -79,7 +86,7 @@ impl Book {
 
 // Gives up the metered sums of today.
 fn clear_metered(traders: &mut [Trader; 64])
-    ensures { traders.new ≡ map unmetered traders.old }
+    ensures { traders.new ≡ map unmetered_trader traders.old }
 {
     for trader in traders.iter_mut() {
         trader.metered = 0;

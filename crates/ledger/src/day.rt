@@ -1,24 +1,23 @@
-// The running gas day: its tokens and its phase.
-ghost use Rattle.std.specs.Prelude.{◌≡◌, Bool};
-ghost use Rattle.ledger.specs.Days.{is_idle, is_open, sky_in};
+//! The running gas day: its tokens and its phase.
+ghost use Rattle.std.specs.Prelude.{◌≡◌};
 ghost use Rattle.ledger.specs.Sharing.{day_quantity, day_loss};
-ghost use Rattle.ledger.specs.declared.day.Phase.{Phase as Stage};
+ghost use Rattle.ledger.specs.Tokens.{DayToken, OpenToken, MeasuredToken, is_idle, is_running, weather_of};
 
 use profiles::Weather;
 
-// The right to enter into the running day and to take its inflow. It is only a number, cannot be copied, and has to be ended:
-// a day that is let go does not compile.
+/// The right to enter into the running day and to take its inflow. It is only a number, cannot be
+/// copied, and has to be ended: a day that is let go does not compile.
 pub struct OpenDay {
     pub(crate) number: u32,
 }
 
-// The right to share out the running day, whose inflow was taken.
+/// The right to share out the running day, whose inflow was taken.
 pub struct MeasuredDay {
     pub(crate) number: u32,
 }
 
 impl OpenDay {
-    // The day's number, by openings from 1.
+    /// The day's number, by openings from 1.
     pub fn number(&self) -> u32
         ensures { result ≡ self.now.number }
     {
@@ -26,21 +25,31 @@ impl OpenDay {
     }
 }
 
-// A token of the running day. That there are two types of it, told apart by nothing else, is what keeps a day from being shared out
-// before its inflow was taken: one generic token would need a marker for what the two types say by themselves.
-pub(crate) trait Token: Sized {
-    // Whether the running day is the token's, and in the token's phase.
-    ghost runs: { Stage → Self → Bool };
+impl MeasuredDay {
+    /// The day's number, by openings from 1.
+    pub fn number(&self) -> u32
+        ensures { result ≡ self.now.number }
+    {
+        self.number
+    }
+}
 
+// A token of the running day. There is a type for each phase, so that a day cannot be shared out
+// before its inflow was taken.
+pub(crate) trait Token: Sized {
+    // Which day of which phase it stands for.
+    ghost token: { Self → DayToken };
+
+    // Whether the running day is the token's, and in the token's phase.
     fn is_running(&self, phase: Phase) -> bool
-        ensures { result ≡ runs phase self.now };
+        ensures { result ≡ is_running phase (token self.now) };
 
     // The token ends; nothing else does.
     fn end(self);
 }
 
 impl Token for OpenDay {
-    ghost runs = { λ phase day. is_open phase day.number };
+    ghost token = { OpenToken };
 
     fn is_running(&self, phase: Phase) -> bool {
         matches!(phase, Phase::Open { number, .. } if number == self.number)
@@ -51,15 +60,31 @@ impl Token for OpenDay {
     }
 }
 
-// What a share-out tells: the quantity shared, the sum of the profile consumptions, and the loss.
+impl Token for MeasuredDay {
+    ghost token = { MeasuredToken };
+
+    fn is_running(&self, phase: Phase) -> bool {
+        matches!(phase, Phase::Measured { number, .. } if number == self.number)
+    }
+
+    fn end(self) {
+        let MeasuredDay { number: _ } = self;
+    }
+}
+
+/// What a share-out returns, in litres.
 #[derive(Clone, Copy, PartialEq, Debug)]
 pub struct SharedOut {
+    /// The quantity shared: the inflow less loss and metered litres.
     pub quantity: u64,
+    /// The sum of the profile consumptions.
     pub total: u64,
+    /// The network loss.
     pub loss: u64,
 }
 
-// How far the running day has come. A measured day's quantity, loss and metered litres are its inflow.
+// How far the running day has come. A measured day's quantity, loss and metered litres are its
+// inflow.
 #[derive(Clone, Copy)]
 pub(crate) enum Phase {
     Idle,
@@ -83,9 +108,9 @@ impl Phase {
         matches!(self, Phase::Idle)
     }
 
-    // What the running day's opening took, and noughts where no day runs, for which nobody asks.
+    // What the running day's opening took; 0.0 degrees in winter where no day runs.
     pub(crate) fn weather(self) -> Weather
-        ensures { result ≡ sky_in self }
+        ensures { result ≡ weather_of self }
     {
         match self {
             Phase::Idle => Weather {
@@ -96,8 +121,7 @@ impl Phase {
         }
     }
 
-    // This and the loss are nought but for a measured day: who asks has tested the phase, and an `Option` would have him meet a `None`
-    // that cannot come.
+    // A measured day's quantity, else 0.
     pub(crate) fn quantity(self) -> u64
         ensures { result ≡ day_quantity self }
     {
@@ -108,6 +132,7 @@ impl Phase {
         }
     }
 
+    // A measured day's loss, else 0.
     pub(crate) fn loss(self) -> u64
         ensures { result ≡ day_loss self }
     {

@@ -1,4 +1,4 @@
 pub mod Limits
-pub mod Near
+pub mod Within
 pub mod Rows
 pub mod Bookings

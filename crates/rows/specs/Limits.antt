@@ -1,4 +1,4 @@
--- The limits of the ledger, each in this one place.
+-- The limits of rows and of their sheet: the numbers of src/limits.rt, stated apart from it.
 use Rattle.std.specs.Prelude.{ℕ}
 
 abbrev pub max_traders : ℕ
@@ -7,16 +7,17 @@ max_traders = 64
 abbrev pub max_points : ℕ
 max_points = 4096
 
-abbrev pub max_scale : ℕ
-max_scale = 2_000_000
+abbrev pub max_scale_factor : ℕ
+max_scale_factor = 2_000_000
 
--- of a row's open sum and period sum, and what they may be before one more day is shared out
+-- of a row's open sum and period sum
 abbrev pub max_open_sum : ℕ
 max_open_sum = 5_000_000_000_000
 
 abbrev pub max_period_sum : ℕ
 max_period_sum = 40_000_000_000
 
+-- what the two may be before one more day is shared out
 abbrev pub full_open_sum : ℕ
 full_open_sum = 4_500_000_000_000
 

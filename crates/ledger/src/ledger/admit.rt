@@ -1,21 +1,24 @@
-// Admitting traders and points.
+//! Admitting traders and points.
 ghost use Rattle.std.specs.Prelude.{◌≡◌, List};
-ghost use Rattle.ledger.specs.Days.{admit_answer, admit_book, point_fault, point_answer, point_book, point_sheet};
-ghost use Rattle.ledger.specs.Grounds.{answered};
-ghost use Rattle.ledger.specs.History.{Makes, TraderAdmitted, PointAdmitted};
 ghost use Rattle.rows.specs.declared.point.Point.{Point as Row};
+ghost use Rattle.ledger.specs.Days.{trader_admission, point_admission_fault, point_admission};
+ghost use Rattle.ledger.specs.Grounds.{call_answer};
+ghost use Rattle.ledger.specs.History.{Step, TraderAdmitted, PointAdmitted};
+ghost use Rattle.ledger.specs.Outcomes.{Became};
 
 use super::Ledger;
-use rows::MAX_TRADERS;
-use rows::{Particulars, Point};
 use refusals::Refusal;
+use rows::{MAX_TRADERS, Particulars, Point};
 
 impl Ledger {
-    // Admits a trader and gives his number.
+    /// Admits a trader: his number, 0 to 63; or refusal 26.
     pub fn admit_trader(&mut self) -> Result<u32, Refusal>
-        ensures answer { result ≡ admit_answer self.old.book }
-        ensures state { self.new.book ≡ admit_book self.old.book }
-        ensures run { (s : List Row) → Makes (TraderAdmitted result) self.old.book s self.new.book s }
+        ensures became {
+            (s : List Row) → Became (trader_admission self.old.book s) result self.new.book s
+        }
+        ensures run {
+            (s : List Row) → Step (TraderAdmitted result) self.old.book s self.new.book s
+        }
     {
         let number = self.book.counts.traders;
         if number >= MAX_TRADERS {
@@ -26,7 +29,7 @@ impl Ledger {
     }
 
     fn check_point(&self, sheet: &[Point], given: Particulars) -> Result<(), Refusal>
-        ensures { result ≡ answered (point_fault self.now.book sheet.now given) tt }
+        ensures { result ≡ call_answer (point_admission_fault self.now.book sheet.now given) tt }
     {
         let rows = self.rows(sheet)?;
         self.trader(given.trader)?;
@@ -39,12 +42,15 @@ impl Ledger {
         Ok(())
     }
 
-    // Admits a point: writes its row at the next place of the sheet, and gives its number.
+    /// Admits a point: writes its row at the next place of the sheet, and gives its number, from 0;
+    /// or refusal 1, 3, 7 or 26.
     pub fn admit_point(&mut self, sheet: &mut [Point], given: Particulars) -> Result<usize, Refusal>
-        ensures answer { result ≡ point_answer self.old.book sheet.old given }
-        ensures state { self.new.book ≡ point_book self.old.book sheet.old given }
-        ensures rows { sheet.new ≡ point_sheet self.old.book sheet.old given }
-        ensures run { Makes (PointAdmitted given result) self.old.book sheet.old self.new.book sheet.new }
+        ensures became {
+            Became (point_admission self.old.book sheet.old given) result self.new.book sheet.new
+        }
+        ensures run {
+            Step (PointAdmitted given result) self.old.book sheet.old self.new.book sheet.new
+        }
     {
         self.check_point(sheet, given)?;
         let number = self.book.counts.points;

@@ -1,11 +1,12 @@
-// The day but for its share-out: opening, entering, taking the inflow, abandoning.
+//! The day but for its share-out: opening, entering, taking the inflow, abandoning.
 ghost use Rattle.std.specs.Prelude.{◌≡◌, ◌≤◌, List};
-ghost use Rattle.ledger.specs.Accounts.{metered_sum};
-ghost use Rattle.ledger.specs.Days.{open_fault, open_answer, open_book, enter_fault, enter_answer, enter_book, loss_of, inflow_fault, inflow_answer, inflow_book};
-ghost use Rattle.ledger.specs.Days.{ended, abandon_fault, abandon_open_answer, abandon_open_book, abandon_measured_answer, abandon_measured_book};
-ghost use Rattle.ledger.specs.Grounds.{answered, handed_back, unless};
-ghost use Rattle.ledger.specs.History.{Makes, Opened, Entered, InflowTaken, OpenAbandoned, MeasuredAbandoned};
 ghost use Rattle.rows.specs.declared.point.Point.{Point as Row};
+ghost use Rattle.ledger.specs.Accounts.{metered_sum};
+ghost use Rattle.ledger.specs.Days.{opening_fault, opening, entry_fault, metered_entry, loss_of, measurement_fault, measurement, abandonment};
+ghost use Rattle.ledger.specs.Grounds.{call_answer};
+ghost use Rattle.ledger.specs.History.{Step, Opened, Entered, InflowTaken, Abandoned};
+ghost use Rattle.ledger.specs.Outcomes.{Became};
+ghost use Rattle.ledger.specs.Tokens.{OpenToken, MeasuredToken, token_handed_back};
 
 use super::Ledger;
 use crate::day::{MeasuredDay, OpenDay, Phase, Token};
@@ -15,7 +16,7 @@ use refusals::{Refusal, Refused};
 
 impl Ledger {
     fn check_opening(&self, weather: Weather) -> Result<(), Refusal>
-        ensures { result ≡ answered (open_fault self.now.book weather.temperature weather.season) tt }
+        ensures { result ≡ call_answer (opening_fault self.now.book weather) tt }
     {
         if !weather.is_in_range() {
             return Err(Refusal::Weather);
@@ -32,11 +33,14 @@ impl Ledger {
         Ok(())
     }
 
-    // Opens a day, whose weather is the temperature in tenths of a degree and the season.
+    /// Opens a day at a temperature and in a season; or refusal 5, 22 or 23.
     pub fn open(&mut self, weather: Weather) -> Result<OpenDay, Refusal>
-        ensures answer { result ≡ open_answer self.old.book weather.temperature weather.season }
-        ensures state { self.new.book ≡ open_book self.old.book weather.temperature weather.season }
-        ensures run { (s : List Row) → Makes (Opened weather.temperature weather.season result) self.old.book s self.new.book s }
+        ensures became {
+            (s : List Row) → Became (opening self.old.book s weather) result self.new.book s
+        }
+        ensures run {
+            (s : List Row) → Step (Opened weather result) self.old.book s self.new.book s
+        }
     {
         self.check_opening(weather)?;
         let number = self.book.counts.opened + 1;
@@ -54,7 +58,7 @@ impl Ledger {
     }
 
     fn check_entry(&self, day: &OpenDay, trader: u32, litres: u64) -> Result<(), Refusal>
-        ensures { result ≡ answered (enter_fault self.now.book day.now trader litres) tt }
+        ensures { result ≡ call_answer (entry_fault self.now.book day.now trader litres) tt }
     {
         self.trader(trader)?;
         if litres > MAX_LITRES {
@@ -69,11 +73,17 @@ impl Ledger {
         Ok(())
     }
 
-    // Adds litres to a trader's metered sum of today: two numbers of one call, as in `take_inflow`.
+    /// Adds litres, up to 1,000,000,000, to a trader's metered sum of today; or refusal 3, 6, 20 or
+    /// 24.
     pub fn enter(&mut self, day: &OpenDay, trader: u32, litres: u64) -> Result<(), Refusal>
-        ensures answer { result ≡ enter_answer self.old.book day.now trader litres }
-        ensures state { self.new.book ≡ enter_book self.old.book day.now trader litres }
-        ensures run { (s : List Row) → Makes (Entered day.now trader litres result) self.old.book s self.new.book s }
+        ensures became {
+            (s : List Row) →
+            Became (metered_entry self.old.book s day.now trader litres) result self.new.book s
+        }
+        ensures run {
+            (s : List Row) →
+            Step (Entered day.now trader litres result) self.old.book s self.new.book s
+        }
     {
         self.check_entry(day, trader, litres)?;
         self.book.traders[trader as usize].metered += litres;
@@ -81,7 +91,7 @@ impl Ledger {
     }
 
     fn check_inflow(&self, day: &OpenDay, inflow: u64, rate: u32) -> Result<(), Refusal>
-        ensures { result ≡ answered (inflow_fault self.now.book day.now inflow rate) tt }
+        ensures { result ≡ call_answer (measurement_fault self.now.book day.now inflow rate) tt }
     {
         if inflow > MAX_LITRES || rate > MAX_RATE {
             return Err(Refusal::Litres);
@@ -95,16 +105,22 @@ impl Ledger {
         Ok(())
     }
 
-    // Takes the day's inflow and its loss rate in millionths: two numbers of one call, which a struct would only wrap to be unwrapped.
+    /// Takes the day's inflow, up to 1,000,000,000 litres, and its loss rate, up to 1,000,000
+    /// millionths; or refusal 6, 20 or 25, which hands the day back.
     pub fn take_inflow(
         &mut self,
         day: OpenDay,
         inflow: u64,
         rate: u32,
     ) -> Result<MeasuredDay, Refused<OpenDay>>
-        ensures answer { result ≡ inflow_answer self.old.book day inflow rate }
-        ensures state { self.new.book ≡ inflow_book self.old.book day inflow rate }
-        ensures run { (s : List Row) → Makes (InflowTaken day inflow rate result) self.old.book s self.new.book s }
+        ensures became {
+            (s : List Row) →
+            Became (measurement self.old.book s day inflow rate) result self.new.book s
+        }
+        ensures run {
+            (s : List Row) →
+            Step (InflowTaken day inflow rate result) self.old.book s self.new.book s
+        }
     {
         if let Err(why) = self.check_inflow(&day, inflow, rate) {
             return Err(Refused { why, given: day });
@@ -125,8 +141,15 @@ impl Ledger {
 
     // Ends the running day with nothing settled.
     fn abandon<T: Token>(&mut self, day: T) -> Result<(), Refused<T>>
-        ensures answer { result ≡ handed_back (abandon_fault (T.Token.runs self.old.book.phase day)) day tt }
-        ensures state { self.new.book ≡ unless (abandon_fault (T.Token.runs self.old.book.phase day)) (ended self.old.book) self.old.book }
+        ensures became {
+            (s : List Row) →
+            Became (abandonment self.old.book s (T.Token.token day) day) result self.new.book s
+        }
+        ensures run {
+            let returned = token_handed_back T.Token.token result in
+            (s : List Row) →
+            Step (Abandoned (T.Token.token day) returned) self.old.book s self.new.book s
+        }
     {
         if !day.is_running(self.book.phase) {
             return Err(Refused {
@@ -139,21 +162,32 @@ impl Ledger {
         Ok(())
     }
 
-    // Ends an open day with nothing settled, and below a measured one. One public call over `Token` would make that trait public, with how
-    // a token ends and the ledger's phase, which only the ledger may know, and would save two calls of one line: no plainer.
+    /// Ends an open day with nothing settled; or refusal 20, which hands the day back.
     pub fn abandon_open(&mut self, day: OpenDay) -> Result<(), Refused<OpenDay>>
-        ensures answer { result ≡ abandon_open_answer self.old.book day }
-        ensures state { self.new.book ≡ abandon_open_book self.old.book day }
-        ensures run { (s : List Row) → Makes (OpenAbandoned day result) self.old.book s self.new.book s }
+        ensures became {
+            (s : List Row) →
+            Became (abandonment self.old.book s (OpenToken day) day) result self.new.book s
+        }
+        ensures run {
+            let returned = token_handed_back OpenToken result in
+            (s : List Row) →
+            Step (Abandoned (OpenToken day) returned) self.old.book s self.new.book s
+        }
     {
         self.abandon(day)
     }
 
-    // Ends a measured day with nothing settled.
+    /// Ends a measured day with nothing settled; or refusal 20, which hands the day back.
     pub fn abandon_measured(&mut self, day: MeasuredDay) -> Result<(), Refused<MeasuredDay>>
-        ensures answer { result ≡ abandon_measured_answer self.old.book day }
-        ensures state { self.new.book ≡ abandon_measured_book self.old.book day }
-        ensures run { (s : List Row) → Makes (MeasuredAbandoned day result) self.old.book s self.new.book s }
+        ensures became {
+            (s : List Row) →
+            Became (abandonment self.old.book s (MeasuredToken day) day) result self.new.book s
+        }
+        ensures run {
+            let returned = token_handed_back MeasuredToken result in
+            (s : List Row) →
+            Step (Abandoned (MeasuredToken day) returned) self.old.book s self.new.book s
+        }
     {
         self.abandon(day)
     }
@@ -161,7 +195,8 @@ impl Ledger {
 
 // The network loss of an inflow at a rate in millionths.
 fn loss_of(inflow: u64, rate: u32) -> u64
-    requires { (inflow ≤ 1_000_000_000) × (rate ≤ 1_000_000) }
+    requires inflow { inflow ≤ 1_000_000_000 }
+    requires rate { rate ≤ 1_000_000 }
     ensures value { result ≡ loss_of inflow rate }
     ensures bound { result ≤ inflow }
 {

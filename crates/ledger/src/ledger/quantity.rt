@@ -1,16 +1,16 @@
-// The open quantity of a trader.
+//! The open quantity of a trader.
 ghost use Rattle.std.specs.Prelude.{◌≡◌, ◌^◌, ◌<◌, sum_by};
 ghost use Rattle.std.specs.List.{list_all};
-ghost use Rattle.ledger.specs.Days.{open_quantity_answer};
-ghost use Rattle.rows.specs.Rows.{summable, open_sum_of};
+ghost use Rattle.rows.specs.Rows.{is_summable, open_sum_of};
+ghost use Rattle.ledger.specs.Days.{open_quantity};
 
 use super::Ledger;
-use rows::Point;
 use refusals::Refusal;
+use rows::Point;
 
 // Whether the trader's rows lie within their ranges.
-fn his_rows_fit(rows: &[Point], trader: u32) -> bool
-    ensures { result ≡ list_all (summable trader) rows.now }
+fn are_summable(rows: &[Point], trader: u32) -> bool
+    ensures { result ≡ list_all (is_summable trader) rows.now }
 {
     rows.iter().all(|row| row.is_summable(trader))
 }
@@ -24,13 +24,13 @@ fn open_sums(rows: &[Point], trader: u32) -> u64
 }
 
 impl Ledger {
-    // The open sums of a trader's points together.
+    /// The open sums of a trader's points together, in litres; or refusal 1, 3 or 11.
     pub fn open_quantity(&self, sheet: &[Point], trader: u32) -> Result<u64, Refusal>
-        ensures { result ≡ open_quantity_answer self.now.book sheet.now trader }
+        ensures { result ≡ open_quantity self.now.book sheet.now trader }
     {
         let rows = self.rows(sheet)?;
         self.trader(trader)?;
-        if !his_rows_fit(rows, trader) {
+        if !are_summable(rows, trader) {
             return Err(Refusal::ForeignSheet);
         }
         Ok(open_sums(rows, trader))

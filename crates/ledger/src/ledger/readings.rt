@@ -1,13 +1,12 @@
-// Readings: a slip is opened, and ended by a booking, a hand-over or a withdrawal. A call takes the sheet and the slip, or the sheet and
-// the point, each by itself: both are the caller's (a rule of the project).
-ghost use Rattle.std.specs.Prelude.{◌≡◌, ◌+◌, ◌<◌, Some, None, IfOk, IfErr};
-ghost use Rattle.ledger.specs.Grounds.{answered};
-ghost use Rattle.ledger.specs.History.{Makes, PointRead, Booked, HandedOver, Withdrawn};
-ghost use Rattle.ledger.specs.Outcomes.{Became, ended};
-ghost use Rattle.rows.specs.Bookings.{row_correction};
-ghost use Rattle.ledger.specs.Readings.{booked_book, row_fault, read_fault, reading_at, book_fault, booking};
-ghost use Rattle.ledger.specs.Readings.{hand_fault, handing_over, withdraw_fault, withdrawal};
+//! Readings: a slip is opened, and ended by a booking, a hand-over or a withdrawal.
+ghost use Rattle.std.specs.Prelude.{◌≡◌, ◌<◌, Some, None, MatchResult};
+ghost use Rattle.rows.specs.Bookings.{kept_correction};
 ghost use Rattle.rows.specs.Rows.{row_at};
+ghost use Rattle.ledger.specs.Grounds.{call_answer};
+ghost use Rattle.ledger.specs.History.{Step, PointRead, Booked, HandedOver, Withdrawn};
+ghost use Rattle.ledger.specs.Outcomes.{Became};
+ghost use Rattle.ledger.specs.Readings.{row_fault, reading_fault, reading_at, booked_book, booking_fault, booking};
+ghost use Rattle.ledger.specs.Readings.{hand_over_fault, hand_over, withdrawal_fault, withdrawal};
 
 use super::Ledger;
 use crate::limits::MAX_READINGS;
@@ -18,7 +17,10 @@ use rows::{FitRow, Point, dial_end};
 impl Ledger {
     // The row of a point admitted.
     fn row(&self, sheet: &[Point], point: usize) -> Result<Point, Refusal>
-        ensures { result ≡ answered (row_fault self.now.book.counts.points sheet.now point) (row_at sheet.now point) }
+        ensures {
+            result ≡ call_answer (row_fault self.now.book.counts.points sheet.now point)
+            (row_at sheet.now point)
+        }
     {
         self.rows(sheet)?
             .get(point)
@@ -28,10 +30,13 @@ impl Ledger {
 
     // The row of a point that can be read.
     fn readable(&self, sheet: &[Point], point: usize, reading: u32) -> Result<Point, Refusal>
-        ensures { result ≡ answered (read_fault self.now.book sheet.now point reading) (row_at sheet.now point) }
+        ensures {
+            result ≡ call_answer (reading_fault self.now.book sheet.now point reading)
+            (row_at sheet.now point)
+        }
     {
         let row = self.row(sheet, point)?;
-        if !row.in_range() {
+        if !row.fits() {
             return Err(Refusal::ForeignSheet);
         }
         if reading >= dial_end(row.digits) {
@@ -46,10 +51,15 @@ impl Ledger {
         Ok(row)
     }
 
-    // Reads a point: its row keeps the reading until the slip ends.
+    /// Reads a point: its row keeps the reading, in dial units, until the slip ends; or refusal 1,
+    /// 4, 11, 7, 27 or 28.
     pub fn read(&mut self, sheet: &mut [Point], point: usize, reading: u32) -> Result<Slip, Refusal>
-        ensures became { Became (reading_at self.old.book sheet.old point reading) result self.new.book sheet.new }
-        ensures run { Makes (PointRead point reading result) self.old.book sheet.old self.new.book sheet.new }
+        ensures became {
+            Became (reading_at self.old.book sheet.old point reading) result self.new.book sheet.new
+        }
+        ensures run {
+            Step (PointRead point reading result) self.old.book sheet.old self.new.book sheet.new
+        }
     {
         let row = self.readable(sheet, point, reading)?;
         let number = self.book.counts.readings + 1;
@@ -58,10 +68,15 @@ impl Ledger {
         Ok(Slip { number, point })
     }
 
-    // The row of a slip that can be booked: its own open one, where there are fewer bookings than readings.
+    // The row of a slip that can be booked: its own open one, where there are fewer bookings than
+    // readings.
     fn bookable(&self, sheet: &[Point], slip: &Slip) -> Result<FitRow, Refusal>
-        ensures ok { IfOk result (λ fit. (book_fault self.now.book sheet.now slip.now ≡ None) × (fit.row ≡ row_at sheet.now slip.now.point)) }
-        ensures err { IfErr result (λ why. book_fault self.now.book sheet.now slip.now ≡ Some why) }
+        ensures {
+            let fault = booking_fault self.now.book sheet.now slip.now in
+            MatchResult result
+            (λ fit. (fault ≡ None) × (fit.row ≡ row_at sheet.now slip.now.point))
+            (λ why. fault ≡ Some why)
+        }
     {
         let row = self.row(sheet, slip.point)?;
         if !row.may_book(self.book.counts.traders) {
@@ -77,7 +92,7 @@ impl Ledger {
     fn book_row(&mut self, fit: &FitRow) -> i64
         requires owned { fit.now.row.trader < self.old.book.counts.traders }
         requires left { self.old.book.counts.bookings < self.old.book.counts.readings }
-        ensures told { result ≡ row_correction fit.now.row }
+        ensures moved { result ≡ kept_correction fit.now.row }
         ensures state { self.new.book ≡ booked_book self.old.book fit.now.row }
     {
         let by = fit.correction();
@@ -87,25 +102,35 @@ impl Ledger {
         by
     }
 
-    // Books a reading: the correction is added to the trader's account and taken from the distributor's.
+    /// Books a reading: the correction, in litres, is added to the trader's account and taken from
+    /// the distributor's; or refusal 1, 4, 11 or 21, which hands the slip back.
     pub fn book(&mut self, sheet: &mut [Point], slip: Slip) -> Result<i64, Refused<Slip>>
-        ensures run { Makes (Booked slip result) self.old.book sheet.old self.new.book sheet.new }
+        ensures became {
+            Became (booking self.old.book sheet.old slip) result self.new.book sheet.new
+        }
+        ensures run {
+            Step (Booked slip result) self.old.book sheet.old self.new.book sheet.new
+        }
     {
         match self.bookable(sheet, &slip) {
             Err(why) => Err(Refused { why, given: slip }),
             Ok(fit) => {
                 let Slip { number: _, point } = slip;
-                let told = self.book_row(&fit);
+                let by = self.book_row(&fit);
                 sheet[point] = fit.booked(fit.row.trader);
-                Ok(told)
+                Ok(by)
             }
         }
     }
 
     // The row of a point that can be handed over.
     fn transferable(&self, sheet: &[Point], slip: &Slip, trader: u32) -> Result<FitRow, Refusal>
-        ensures ok { IfOk result (λ fit. (hand_fault self.now.book sheet.now slip.now trader ≡ None) × (fit.row ≡ row_at sheet.now slip.now.point)) }
-        ensures err { IfErr result (λ why. hand_fault self.now.book sheet.now slip.now trader ≡ Some why) }
+        ensures {
+            let fault = hand_over_fault self.now.book sheet.now slip.now trader in
+            MatchResult result
+            (λ fit. (fault ≡ None) × (fit.row ≡ row_at sheet.now slip.now.point))
+            (λ why. fault ≡ Some why)
+        }
     {
         self.rows(sheet)?;
         self.trader(trader)?;
@@ -116,15 +141,21 @@ impl Ledger {
         Ok(fit)
     }
 
-    // Hands a point over: books the reading for the trader who had it, and then the point is the new trader's. The steps are those of
-    // `book` but for the test and the trader: what both do is `book_row`, and one function around it would only pass the two on.
+    /// Hands a point over: books the reading for the trader who had it, and then the point is the
+    /// new trader's. The correction, in litres; or refusal 1, 3, 4, 11, 21 or 29, which hands the
+    /// slip back.
     pub fn hand_over(
         &mut self,
         sheet: &mut [Point],
         slip: Slip,
         trader: u32,
     ) -> Result<i64, Refused<Slip>>
-        ensures run { Makes (HandedOver slip trader result) self.old.book sheet.old self.new.book sheet.new }
+        ensures became {
+            Became (hand_over self.old.book sheet.old slip trader) result self.new.book sheet.new
+        }
+        ensures run {
+            Step (HandedOver slip trader result) self.old.book sheet.old self.new.book sheet.new
+        }
     {
         match self.transferable(sheet, &slip, trader) {
             Err(why) => Err(Refused { why, given: slip }),
@@ -139,7 +170,10 @@ impl Ledger {
 
     // The row of a point whose open slip this is.
     fn withdrawable(&self, sheet: &[Point], slip: &Slip) -> Result<Point, Refusal>
-        ensures { result ≡ answered (withdraw_fault self.now.book sheet.now slip.now) (row_at sheet.now slip.now.point) }
+        ensures {
+            result ≡ call_answer (withdrawal_fault self.now.book sheet.now slip.now)
+            (row_at sheet.now slip.now.point)
+        }
     {
         let row = self.row(sheet, slip.point)?;
         if !row.is_slip(slip.number) {
@@ -148,9 +182,15 @@ impl Ledger {
         Ok(row)
     }
 
-    // Withdraws a reading: the slip ends and nothing is booked.
+    /// Withdraws a reading: the slip ends and nothing is booked; or refusal 1, 4 or 21, which hands
+    /// the slip back.
     pub fn withdraw(&self, sheet: &mut [Point], slip: Slip) -> Result<(), Refused<Slip>>
-        ensures whole { ended result self.now.book sheet.new ≡ withdrawal self.now.book sheet.old slip }
+        ensures became {
+            Became (withdrawal self.now.book sheet.old slip) result self.now.book sheet.new
+        }
+        ensures run {
+            Step (Withdrawn slip result) self.now.book sheet.old self.now.book sheet.new
+        }
     {
         match self.withdrawable(sheet, &slip) {
             Err(why) => Err(Refused { why, given: slip }),
