@@ -5,8 +5,8 @@ use Rattle.std.proofs.lemmas.Iterator.Search.{any_from_yields_List}
 use Rattle.std.proofs.iter.runs.Made.{chains}
 use Rattle.shares.specs.Fair.{max_weight}
 use Rattle.shares.specs.Fairness.{too_much, too_heavy, weightless, all_well, total_fits}
-use Rattle.shares.proofs.fair.Fair.new.Goals as goal
-use Rattle.shares.proofs.fair.Fair.new.Goals.{After-any}
+use Rattle.shares.proofs.sharing.Sharing.new.Goals as goal
+use Rattle.shares.proofs.sharing.Sharing.new.Goals.{After-any}
 
 heavy : (c : After-any) → list_any (λ w. ltb max_weight w) c.args.weights.now ≡ c.any.result
 heavy c = sym (any_from_yields_List (λ w. ltb max_weight w) _ _ c.any.result c.any.ensures.ran (YieldsList-from_slice c.args.weights.now cc) (λ x b q k. search (rules, tests)))
