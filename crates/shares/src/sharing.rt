@@ -1,6 +1,6 @@
 // A quantity and weights by which it can be shared.
 ghost use Rattle.std.specs.Prelude.{◌≡◌, ◌*◌, ◌/◌, ◌%◌, ◌≤◌, true, false, IfSome, IfNone, sum};
-ghost use Rattle.shares.specs.Fair.{max_quantity, fair};
+ghost use Rattle.shares.specs.Fair.{max_quantity, max_total, fair};
 
 // The most litres that are shared at once.
 pub const MAX_QUANTITY: u64 = 1_000_000_000;
@@ -19,6 +19,7 @@ pub struct Sharing<'a> {
     pub total: u64,
     pub ghost fairly: { fair quantity weights.now ≡ true },
     pub ghost whole: { total ≡ sum weights.now },
+    pub ghost limit: { total ≤ max_total },
 }
 
 impl<'a> Sharing<'a> {
