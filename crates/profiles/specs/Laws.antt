@@ -1,24 +1,33 @@
--- What a profile tells.
-use Rattle.std.specs.Prelude.{◌≡◌, ℕ, ◌≤◌, cond, ℤ}
+-- What a profile gives.
+use Rattle.std.specs.Prelude.{◌≡◌, ℕ, ◌≤◌, cond}
 use Rattle.profiles.specs.declared.factors.Factors.{Factors}
-use Rattle.profiles.specs.Asked.{asked}
+use Rattle.profiles.specs.declared.weather.Weather.{Weather}
+use Rattle.profiles.specs.Asked.{is_asked}
 
 -- the factor one, in ten-millionths
 abbrev pub whole : ℕ
 whole = 10_000_000
 
 -- a multiplier and a day factor
-abbrev pub both : ℕ → ℕ → Factors
-both m d = record { multiplier = m; day = d }
-
--- what is told where it may be asked, and else 0 and 0
-abbrev pub told : ℕ → ℕ → ℤ → ℕ → Factors → Factors
-told segments segment t season f = cond (asked segments segment t season) f (both 0 0)
-
--- both tell the same, whatever is asked
-abbrev pub Same : (ℕ → ℤ → ℕ → Factors) → (ℕ → ℤ → ℕ → Factors) → Type 0
-Same p q = (segment : ℕ) (t : ℤ) (season : ℕ) → p segment t season ≡ q segment t season
+abbrev pub factors_of : ℕ → ℕ → Factors
+factors_of m d = record { multiplier = m; day = d }
 
 -- both numbers are factors
-abbrev pub Small : Factors → Type 0
-Small f = (f.multiplier ≤ whole) × (f.day ≤ whole)
+abbrev pub AreFactors : Factors → Type 0
+AreFactors f = (f.multiplier ≤ whole) × (f.day ≤ whole)
+
+-- the meaning of a profile: the factors of a segment in a weather
+abbrev pub Tells : Type 0
+Tells = ℕ → Weather → Factors
+
+-- whatever is asked, both numbers are factors
+abbrev pub TellsFactors : Tells → Type 0
+TellsFactors tells = (segment : ℕ) (w : Weather) → AreFactors (tells segment w)
+
+-- whatever is asked, both give the same
+abbrev pub SameTells : Tells → Tells → Type 0
+SameTells p q = (segment : ℕ) (w : Weather) → p segment w ≡ q segment w
+
+-- these factors where a profile of so many segments may be asked, and else 0 and 0
+abbrev pub factors_where_asked : ℕ → ℕ → Weather → Factors → Factors
+factors_where_asked segments segment w f = cond (is_asked segments segment w) f (factors_of 0 0)

@@ -1,8 +1,9 @@
 -- The season layer, and what it changes.
-use Rattle.std.specs.Prelude.{◌≡◌, ℕ, ◌+◌, ◌*◌, ◌/◌, ◌<◌, min, cond, List, ℤ, pos, ◌+ℤ◌, ◌<ℤ◌, ◌==◌, ◌≢◌, slice_index}
+use Rattle.std.specs.Prelude.{◌≡◌, ℕ, ◌+◌, ◌*◌, ◌/◌, ◌<◌, min, cond, List, ◌<ℤ◌, ◌==◌, ◌≢◌, slice_index}
 use Rattle.profiles.specs.declared.factors.Factors.{Factors}
-use Rattle.profiles.specs.Asked.{seasons, first_tenth, last_tenth, columns, place}
-use Rattle.profiles.specs.Laws.{whole, both}
+use Rattle.profiles.specs.declared.weather.Weather.{Weather}
+use Rattle.profiles.specs.Asked.{seasons, first_tenth, last_tenth, columns, last_column, at_column, place}
+use Rattle.profiles.specs.Laws.{whole, Tells}
 
 -- the segments are 0 to 7
 abbrev pub last_segment : ℕ
@@ -15,24 +16,34 @@ layer_cells = seasons * columns
 abbrev pub max_season_number : ℕ
 max_season_number = 2 * whole
 
--- the day factor below times the season number, rounded down and at most the whole
-abbrev pub scaled : ℕ → ℕ → ℕ
-scaled day number = min whole (day * number / whole)
+-- a day factor times a season number, rounded down and at most the whole
+abbrev pub scaled_factor : ℕ → ℕ → ℕ
+scaled_factor day number = min whole (day * number / whole)
 
--- what a layer makes of what is told below it: only its own segment's day factor is scaled
-abbrev pub layered : ℕ → List ℕ → ℕ → ℤ → ℕ → Factors → Factors
-layered own numbers segment t season f =
-    cond (segment == own) (both f.multiplier (scaled f.day (slice_index numbers (place season t)))) f
+-- factors with the day factor scaled
+abbrev pub scaled_factors : ℕ → Factors → Factors
+scaled_factors number f = record f { day = scaled_factor f.day number }
 
--- what a layer tells over what is told below it
-abbrev pub layer_tells : ℕ → List ℕ → (ℕ → ℤ → ℕ → Factors) → ℕ → ℤ → ℕ → Factors
-layer_tells own numbers below segment t season = layered own numbers segment t season (below segment t season)
+-- what a layer makes of the factors below it: only its own segment's day factor is scaled
+abbrev pub layer_factors : ℕ → List ℕ → ℕ → Weather → Factors → Factors
+layer_factors own numbers segment w f =
+    cond (segment == own) (scaled_factors (slice_index numbers (place w.season w)) f) f
 
--- a layer passes multipliers and the other segments on; its own segment's day factor is scaled by the season's k-th
--- number at the k-th tenth, and by that of the nearer end colder or warmer than the sheet goes
-pub record Scales (own : ℕ) (sheet : List ℕ) (below tells : ℕ → ℤ → ℕ → Factors) : Type 0 where
-  pub multipliers : (segment : ℕ) (t : ℤ) (season : ℕ) → (tells segment t season).multiplier ≡ (below segment t season).multiplier
-  pub others : (segment : ℕ) (t : ℤ) (season : ℕ) → (segment ≢ own) → tells segment t season ≡ below segment t season
-  pub inside : (k season : ℕ) → k < columns → season < seasons → (tells own (first_tenth +ℤ pos k) season).day ≡ scaled (below own (first_tenth +ℤ pos k) season).day (slice_index sheet (season * columns + k))
-  pub colder : (t : ℤ) (season : ℕ) → t <ℤ first_tenth → season < seasons → (tells own t season).day ≡ scaled (below own t season).day (slice_index sheet (season * columns))
-  pub warmer : (t : ℤ) (season : ℕ) → last_tenth <ℤ t → season < seasons → (tells own t season).day ≡ scaled (below own t season).day (slice_index sheet (season * columns + 380))
+-- the meaning of a layer over that of the profile below it
+abbrev pub layer_tells : ℕ → List ℕ → Tells → Tells
+layer_tells own numbers below segment w = layer_factors own numbers segment w (below segment w)
+
+-- a layer passes multipliers and the other segments on; its own segment's day factor is scaled by
+-- the season's k-th number at the k-th tenth, and by that of the nearer end colder or warmer than
+-- the sheet goes
+pub record Scales (own : ℕ) (sheet : List ℕ) (below tells : Tells) : Type 0 where
+  pub multipliers : (segment : ℕ) (w : Weather) → (tells segment w).multiplier ≡ (below segment w).multiplier
+  pub others : (segment : ℕ) (w : Weather) → (segment ≢ own) → tells segment w ≡ below segment w
+  pub inside : (k : ℕ) (w : Weather) → k < columns → w.season < seasons →
+      (tells own (at_column k w)).day ≡
+      scaled_factor (below own (at_column k w)).day (slice_index sheet (w.season * columns + k))
+  pub colder : (w : Weather) → w.temperature <ℤ first_tenth → w.season < seasons →
+      (tells own w).day ≡ scaled_factor (below own w).day (slice_index sheet (w.season * columns))
+  pub warmer : (w : Weather) → last_tenth <ℤ w.temperature → w.season < seasons →
+      (tells own w).day ≡
+      scaled_factor (below own w).day (slice_index sheet (w.season * columns + last_column))

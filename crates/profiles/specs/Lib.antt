@@ -1,5 +1,7 @@
 pub mod Asked
 pub mod Laws
 pub mod Sheets
+pub mod Even
 pub mod Tables
 pub mod Layers
+pub mod Lawful

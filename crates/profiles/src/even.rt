@@ -1,8 +1,9 @@
 // One factor for every segment, temperature and season.
 ghost use Rattle.std.specs.Prelude.{◌≡◌, ◌<◌, ◌≤◌, MatchResult};
 ghost use Rattle.refusals.specs.declared.Refusal.TheVariants.{ProfileSheet};
-ghost use Rattle.profiles.specs.Laws.{whole, both, told};
-ghost use Rattle.std.proofs.Common.{rules};
+ghost use Rattle.profiles.specs.Laws.{whole};
+ghost use Rattle.profiles.specs.Even.{even_segments, even_tells};
+ghost use Rattle.profiles.specs.Lawful.{even_few, even_factors, not_asked};
 
 use crate::factors::{Factors, WHOLE};
 use crate::profile::Profile;
@@ -29,15 +30,15 @@ impl EvenProfile {
 impl Profile for EvenProfile {
     const SEGMENTS: u32 = 8;
 
-    ghost SEGMENTS = { 8 };
+    ghost SEGMENTS = { even_segments };
 
-    ghost tells = { λ p segment t season. told 8 segment t season (both p.factor p.factor) };
+    ghost tells = { λ p. even_tells p.factor };
 
-    ghost few = { Prim.search rules };
+    ghost few = { even_few };
 
-    ghost small = { Prim.search rules };
+    ghost are_factors = { λ p. even_factors p.factor p.low };
 
-    ghost outside = { Prim.search rules };
+    ghost outside = { λ p segment w h. not_asked even_segments segment w _ h };
 
     fn tell(&self, segment: u32, weather: Weather) -> Factors {
         if segment >= Self::SEGMENTS || !weather.is_in_range() {

@@ -1,7 +1,7 @@
 // What a profile tells. A factor is a whole number of ten-millionths, 0 to 10,000,000.
 
 ghost use Rattle.std.specs.Prelude.{◌≡◌};
-ghost use Rattle.profiles.specs.Laws.{both};
+ghost use Rattle.profiles.specs.Laws.{factors_of};
 
 // The factor one.
 pub const WHOLE: u32 = 10_000_000;
@@ -15,7 +15,7 @@ pub struct Factors {
 impl Factors {
     // One factor for both.
     pub(crate) fn both(factor: u32) -> Factors
-        ensures { result ≡ both factor factor }
+        ensures { result ≡ factors_of factor factor }
     {
         Factors {
             multiplier: factor,

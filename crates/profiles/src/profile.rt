@@ -1,8 +1,9 @@
 // What every profile keeps.
-ghost use Rattle.std.specs.Prelude.{◌≡◌, ℕ, ◌≤◌, false, ℤ};
+ghost use Rattle.std.specs.Prelude.{◌≡◌, ℕ, ◌≤◌, false};
 ghost use Rattle.profiles.specs.declared.factors.Factors.{Factors};
-ghost use Rattle.profiles.specs.Asked.{asked};
-ghost use Rattle.profiles.specs.Laws.{both, Small};
+ghost use Rattle.profiles.specs.declared.weather.Weather.{Weather};
+ghost use Rattle.profiles.specs.Asked.{is_asked};
+ghost use Rattle.profiles.specs.Laws.{factors_of, Tells, TellsFactors};
 
 use crate::factors::Factors;
 use crate::weather::Weather;
@@ -15,17 +16,18 @@ pub trait Profile {
 
     ghost SEGMENTS: { ℕ };
 
-    ghost tells: { Self → ℕ → ℤ → ℕ → Factors };
+    ghost tells: { Self → ℕ → Weather → Factors };
 
     fn tell(&self, segment: u32, weather: Weather) -> Factors
-        ensures { result ≡ tells self.now segment weather.temperature weather.season };
+        ensures { result ≡ tells self.now segment weather };
 
     // At least one segment is served, and at most eight.
     ghost few: { (1 ≤ SEGMENTS) × (SEGMENTS ≤ 8) };
 
     // Both numbers are factors.
-    ghost small: { (p : Self) (segment : ℕ) (t : ℤ) (season : ℕ) → Small (tells p segment t season) };
+    ghost are_factors: { (p : Self) → TellsFactors (tells p) };
 
     // Asked outside its segments, the temperatures or the seasons, it tells 0 and 0.
-    ghost outside: { (p : Self) (segment : ℕ) (t : ℤ) (season : ℕ) → asked SEGMENTS segment t season ≡ false → tells p segment t season ≡ both 0 0 };
+    ghost outside: { (p : Self) (segment : ℕ) (w : Weather)
+        → is_asked SEGMENTS segment w ≡ false → tells p segment w ≡ factors_of 0 0 };
 }

@@ -1,10 +1,10 @@
 // A layer over any profile that scales the day factor of one segment by season and temperature.
 ghost use Rattle.std.specs.Prelude.{◌≡◌, ◌<◌, ◌≤◌, true, replicate, is_ok, IfOk, if◌then◌else◌, MatchResult};
 ghost use Rattle.refusals.specs.declared.Refusal.TheVariants.{Particulars};
-ghost use Rattle.profiles.specs.Laws.{whole, Same};
+ghost use Rattle.profiles.specs.Laws.{whole, SameTells};
 ghost use Rattle.profiles.specs.Layers.{last_segment, layer_cells, max_season_number, layer_tells, Scales};
 ghost use Rattle.profiles.specs.Sheets.{verdict};
-ghost use Rattle.std.proofs.Common.{rules};
+ghost use Rattle.profiles.specs.Lawful.{layer_are_factors, layer_not_asked};
 
 use crate::factors::{Factors, WHOLE};
 use crate::profile::Profile;
@@ -32,7 +32,7 @@ impl<P: Profile> SeasonLayer<P> {
     // A layer for one segment that changes nothing until a sheet is filled in. A refusal hands the profile below back.
     pub fn new(below: P, segment: u32) -> Result<SeasonLayer<P>, Refused<P>>
         ensures holds { MatchResult result (λ l. (l.below ≡ below) × (l.segment ≡ segment) × (l.sheet.numbers ≡ replicate layer_cells whole)) (λ e. (e.why ≡ Particulars) × (e.given ≡ below) × (last_segment < segment)) }
-        ensures idle { IfOk result (λ l. Same (layer_tells l.segment l.sheet.numbers (P.Profile.tells l.below)) (P.Profile.tells below)) }
+        ensures idle { IfOk result (λ l. SameTells (layer_tells l.segment l.sheet.numbers (P.Profile.tells l.below)) (P.Profile.tells below)) }
     {
         if segment > LAST_SEGMENT {
             return Err(Refused {
@@ -65,11 +65,13 @@ impl<P: Profile> Profile for SeasonLayer<P> {
 
     ghost tells = { λ l. layer_tells l.segment l.sheet.numbers (P.Profile.tells l.below) };
 
-    ghost few = { Prim.search rules };
+    ghost few = { P.Profile.few };
 
-    ghost small = { Prim.search rules };
+    ghost are_factors = { λ l. layer_are_factors l.segment l.sheet.numbers (P.Profile.tells l.below)
+        (P.Profile.are_factors l.below) };
 
-    ghost outside = { Prim.search rules };
+    ghost outside = { λ l segment w h. layer_not_asked l.segment l.sheet.numbers (P.Profile.tells l.below) segment w
+        (P.Profile.outside l.below segment w h) };
 
     fn tell(&self, segment: u32, weather: Weather) -> Factors {
         let told = self.below.tell(segment, weather);

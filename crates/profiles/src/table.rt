@@ -1,9 +1,9 @@
 // The published table: residential and business customers, by temperature.
 ghost use Rattle.std.specs.Prelude.{◌≡◌, true, replicate, is_ok, if◌then◌else◌};
-ghost use Rattle.profiles.specs.Laws.{whole, both, Same};
+ghost use Rattle.profiles.specs.Laws.{whole, factors_of, SameTells};
 ghost use Rattle.profiles.specs.Sheets.{verdict};
 ghost use Rattle.profiles.specs.Tables.{table_segments, table_cells, table_tells, Reads};
-ghost use Rattle.std.proofs.Common.{rules};
+ghost use Rattle.profiles.specs.Lawful.{table_few, table_factors, not_asked};
 
 use crate::factors::{Factors, WHOLE};
 use crate::profile::Profile;
@@ -24,7 +24,7 @@ impl TableProfile {
     // A table that tells 0 until a sheet is filled in.
     pub fn new() -> TableProfile
         ensures holds { result.sheet.numbers ≡ replicate table_cells 0 }
-        ensures nought { Same (table_tells result.sheet.numbers) (λ _ _ _. both 0 0) }
+        ensures zero { SameTells (table_tells result.sheet.numbers) (λ _ _. factors_of 0 0) }
     {
         TableProfile {
             sheet: Sheet::filled(0),
@@ -48,11 +48,11 @@ impl Profile for TableProfile {
 
     ghost tells = { λ p. table_tells p.sheet.numbers };
 
-    ghost few = { Prim.search rules };
+    ghost few = { table_few };
 
-    ghost small = { Prim.search rules };
+    ghost are_factors = { λ p. table_factors p.sheet.numbers p.sheet.low };
 
-    ghost outside = { Prim.search rules };
+    ghost outside = { λ p segment w h. not_asked table_segments segment w _ h };
 
     fn tell(&self, segment: u32, weather: Weather) -> Factors {
         if segment >= Self::SEGMENTS || !weather.is_in_range() {

@@ -1,6 +1,6 @@
 // The weather that a profile is asked about.
 ghost use Rattle.std.specs.Prelude.{◌≡◌, ◌+◌, ◌*◌, ◌<◌};
-ghost use Rattle.profiles.specs.Asked.{within, columns, column, place};
+ghost use Rattle.profiles.specs.Asked.{is_in_range, columns, column, place};
 
 const COLDEST: i16 = -400;
 
@@ -27,7 +27,7 @@ pub struct Weather {
 impl Weather {
     // Whether it is a temperature from -40.0 to 50.0 degrees, and one of the four seasons.
     pub fn is_in_range(self) -> bool
-        ensures { result ≡ within self.temperature self.season }
+        ensures { result ≡ is_in_range self }
     {
         (COLDEST..=HOTTEST).contains(&self.temperature) && self.season <= LAST_SEASON
     }
@@ -43,7 +43,7 @@ impl Weather {
 
     // Where its column of a row stands in a sheet.
     pub(crate) fn place(self, row: u32) -> usize
-        ensures is { result ≡ place row self.temperature }
+        ensures is { result ≡ place row self }
         ensures inside { result < row * columns + columns }
     {
         row as usize * COLUMNS + self.column()

@@ -6,7 +6,7 @@ use Rattle.std.proofs.Common.{⊎_elim, arith}
 use Rattle.std.proofs.lemmas.List.Sums.{sum_by-cons, sum_by-take-le, count_by_more_yes, count_by_more_no}
 use Rattle.std.proofs.lemmas.Bool.{cases_lt, cases_order, le-leb, lt-leb, lt-ltb, le-ltb, eq-eqb, ne_eqb}
 use Rattle.std.proofs.lemmas.Bool.Decides.{nat_tests}
-use Rattle.shares.specs.Rules.{ahead}
+use Rattle.shares.specs.Rules.{places_ahead}
 
 abbrev pub one_if : Bool → ℕ
 one_if b = cond b 1 0
@@ -121,8 +121,8 @@ cut_below rs l most (suc t) h =
 
 module _ (rs : List ℕ) (i : ℕ) (in' : i < length rs) where
   -- those ahead of i, and i itself, all reach the number at i
-  pub ahead_reach : ahead rs i < reach rs (slice_index rs i)
-  unfolding ahead
+  pub ahead_reach : places_ahead rs i < reach rs (slice_index rs i)
+  unfolding places_ahead
   ahead_reach =
       let x = slice_index_or rs i 0 in
       let one = count_by_more_yes (λ r. nat_eq r x) rs i 0 in' (eq-eqb x x refl) in
@@ -130,19 +130,19 @@ module _ (rs : List ℕ) (i : ℕ) (in' : i < length rs) where
       omega (arith, reach_split rs x)
 
   module _ (l t : ℕ) (cut : Cut rs l t) where
-    pub over_cut : t < slice_index rs i → ahead rs i < l
+    pub over_cut : t < slice_index rs i → places_ahead rs i < l
     over_cut h = omega (arith, ahead_reach, reach_falls rs (suc t) (slice_index rs i) h, cut.few)
 
-    pub under_cut : slice_index_or rs i 0 < t → l ≤ ahead rs i
-    unfolding ahead
+    pub under_cut : slice_index_or rs i 0 < t → l ≤ places_ahead rs i
+    unfolding places_ahead
     under_cut h = omega (arith, reach_falls rs (suc (slice_index rs i)) t h, cut.enough)
 
-    pub at_cut : slice_index_or rs i 0 ≡ t → ahead rs i ≡ higher rs t + level (take i rs) t
-    unfolding ahead
+    pub at_cut : slice_index_or rs i 0 ≡ t → places_ahead rs i ≡ higher rs t + level (take i rs) t
+    unfolding places_ahead
     at_cut e = ap (λ x. higher rs x + level (take i rs) x) e
 
     -- of the first i + 1, one more than of the first i is served, or none
-    pub served : one_if (nat_lt (ahead rs i) l) + (higher (take i rs) t + min (level (take i rs) t) (l - higher rs t)) ≡ higher (take (i + 1) rs) t + min (level (take (i + 1) rs) t) (l - higher rs t)
+    pub served : one_if (nat_lt (places_ahead rs i) l) + (higher (take i rs) t + min (level (take i rs) t) (l - higher rs t)) ≡ higher (take (i + 1) rs) t + min (level (take (i + 1) rs) t) (l - higher rs t)
     served =
         ⊎_elim
         (λ e.
@@ -150,19 +150,19 @@ module _ (rs : List ℕ) (i : ℕ) (in' : i < length rs) where
         let p = count_by_more_no (λ r. ltb t r) rs i 0 in' (le-ltb _ _ (omega arith)) in
         let q = count_by_more_yes (λ r. nat_eq r t) rs i 0 in' (eq-eqb _ _ e) in
         let f = cut.few in
-        let w : one_if (nat_lt (ahead rs i) l) + min (level (take i rs) t) (l - higher rs t) ≡ min (level (take i rs) t + 1) (l - higher rs t) = ⊎_elim (λ y. rw (lt-ltb (ahead rs i) l y) (omega arith)) (λ n. rw (le-ltb (ahead rs i) l n) (omega arith)) (cases_lt (ahead rs i) l) in
+        let w : one_if (nat_lt (places_ahead rs i) l) + min (level (take i rs) t) (l - higher rs t) ≡ min (level (take i rs) t + 1) (l - higher rs t) = ⊎_elim (λ y. rw (lt-ltb (places_ahead rs i) l y) (omega arith)) (λ n. rw (le-ltb (places_ahead rs i) l n) (omega arith)) (cases_lt (places_ahead rs i) l) in
         omega arith)
         (⊎_elim
         (λ lt.
         let a = under_cut lt in
         let p = count_by_more_no (λ r. ltb t r) rs i 0 in' (le-ltb _ _ (omega arith)) in
         let q = count_by_more_no (λ r. nat_eq r t) rs i 0 in' (ne_eqb _ _ (omega arith)) in
-        rw (le-ltb (ahead rs i) l a) (omega arith))
+        rw (le-ltb (places_ahead rs i) l a) (omega arith))
         (λ gt.
         let a = over_cut gt in
         let p = count_by_more_yes (λ r. ltb t r) rs i 0 in' (lt-ltb _ _ gt) in
         let q = count_by_more_no (λ r. nat_eq r t) rs i 0 in' (ne_eqb _ _ (omega arith)) in
-        rw (lt-ltb (ahead rs i) l a) (omega arith)))
+        rw (lt-ltb (places_ahead rs i) l a) (omega arith)))
         (cases_order (slice_index rs i) t)
 
 -- l places are cut off: all those above t, and m of those at t

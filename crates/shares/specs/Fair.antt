@@ -19,19 +19,19 @@ max_total = max_weight * max_weights
 
 -- the quantity, the number of weights and each weight are within their limits, and the weights are not all 0
 unfoldable pub fair : ℕ → List ℕ → Bool
-fair a ws = nat_le a max_quantity && (nat_le (length ws) max_weights && (count_by (λ w. ltb max_weight w) ws == 0 && nat_lt 0 (sum ws)))
+fair a ws =
+    nat_le a max_quantity
+    && (nat_le (length ws) max_weights
+    && (count_by (λ w. ltb max_weight w) ws == 0
+    && nat_lt 0 (sum ws)))
 
--- n noughts
+-- n zeros
 abbrev pub zeros : ℕ → List ℕ
 zeros n = replicate n 0
 
--- a rule is used only where the quantity can be shared, and else every place gets 0
-abbrev pub guarded : (ℕ → List ℕ → List ℕ) → ℕ → List ℕ → List ℕ
-guarded rule a ws = cond (fair a ws) (rule a ws) (zeros (length ws))
-
--- what is written over a sheet of n places: the shares if there are as many weights, and else noughts
-abbrev pub written : List ℕ → List ℕ → ℕ → List ℕ
-written shares ws n = cond (length ws == n) shares (zeros n)
+-- a sheet of n places after a sharing: the shares if there are as many weights, and else zeros
+abbrev pub sheet_after : List ℕ → List ℕ → ℕ → List ℕ
+sheet_after shares ws n = cond (length ws == n) shares (zeros n)
 
 -- a share x of a litres, at weight w of s in all: x times s differs from a times w by less than s
 abbrev pub Near : ℕ → ℕ → ℕ → ℕ → Type 0

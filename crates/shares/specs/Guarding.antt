@@ -1,25 +1,39 @@
--- What a guarded rule gives and writes.
-use Rattle.std.specs.Prelude.{◌≡◌, ℕ, ◌<◌, true, false, List, length, sum, slice_index}
-use Rattle.std.proofs.Common.{sym, ap, subst, ◌∙◌}
+-- A guarded rule keeps the laws of share rules.
+use Rattle.std.specs.Prelude.{◌≡◌, ℕ, ◌+◌, ◌*◌, ◌<◌, true, List, length, sum, slice_index}
+use Rattle.std.proofs.Common.{sym, ap, subst, ◌∙◌, ⊎_elim, mul-zero, arith}
+use Rattle.std.proofs.lemmas.Nat.{mul-le}
 use Rattle.std.proofs.lemmas.List.{length-replicate, get_or-replicate}
-use Rattle.std.proofs.lemmas.Bool.{cond-true, cond-false, cond_both}
-use Rattle.shares.specs.Fair.{fair, zeros, guarded, Near}
+use Rattle.std.proofs.lemmas.Bool.{cases_lt, cond-true, cond-false, cond_both}
+use Rattle.shares.specs.Fair.{fair, Near}
+use Rattle.shares.specs.Laws.{Rule, SharesFairly, IsShareRule, guarded_rule}
 
-module _ (rule : ℕ → List ℕ → List ℕ) where
-  pub when_fair : (a : ℕ) (ws : List ℕ) → fair a ws ≡ true → guarded rule a ws ≡ rule a ws
-  when_fair a ws h = cond-true _ _ _ h
+-- a share near to no weight is none
+pub near_zero : (a s x : ℕ) → Near a s 0 x → x ≡ 0
+near_zero a s x near =
+    let none = mul-zero a in
+    ⊎_elim
+    (λ some. let m = mul-le 1 s x s some (omega arith) in absurd (omega (arith, near.0)))
+    (λ le. omega arith)
+    (cases_lt 0 x)
 
-  pub when_not : (a : ℕ) (ws : List ℕ) → fair a ws ≡ false → guarded rule a ws ≡ zeros (length ws)
-  when_not a ws h = cond-false _ _ _ h
+module _ (rule : Rule) (laws : SharesFairly rule) where
+  guarded_rule-fair : (a : ℕ) (ws : List ℕ) → fair a ws ≡ true → guarded_rule rule a ws ≡ rule a ws
+  guarded_rule-fair a ws h = cond-true _ _ _ h
 
-  pub guarded_places : ((a : ℕ) (ws : List ℕ) → length (rule a ws) ≡ length ws) → (a : ℕ) (ws : List ℕ) → length (guarded rule a ws) ≡ length ws
-  guarded_places h a ws = cond_both (fair a ws) _ _ (λ l. length l ≡ length ws) (λ _. h a ws) (λ _. length-replicate {A = ℕ} (length ws) 0)
-
-  pub guarded_whole : ((a : ℕ) (ws : List ℕ) → fair a ws ≡ true → sum (rule a ws) ≡ a) → (a : ℕ) (ws : List ℕ) → fair a ws ≡ true → sum (guarded rule a ws) ≡ a
-  guarded_whole h a ws y = ap sum (when_fair a ws y) ∙ h a ws y
-
-  pub guarded_near : ((a : ℕ) (ws : List ℕ) (i : ℕ) → fair a ws ≡ true → i < length ws → Near a (sum ws) (slice_index ws i) (slice_index (rule a ws) i)) → (a : ℕ) (ws : List ℕ) (i : ℕ) → fair a ws ≡ true → i < length ws → Near a (sum ws) (slice_index ws i) (slice_index (guarded rule a ws) i)
-  guarded_near h a ws i y in' = subst (λ l. Near a (sum ws) (slice_index ws i) (slice_index l i)) (sym (when_fair a ws y)) (h a ws i y in')
-
-  pub guarded_idle : ((a : ℕ) (ws : List ℕ) (i : ℕ) → fair a ws ≡ true → i < length ws → slice_index ws i ≡ 0 → slice_index (rule a ws) i ≡ 0) → (a : ℕ) (ws : List ℕ) (i : ℕ) → i < length ws → slice_index ws i ≡ 0 → slice_index (guarded rule a ws) i ≡ 0
-  guarded_idle h a ws i in' z = cond_both (fair a ws) _ _ (λ l. slice_index l i ≡ 0) (λ y. h a ws i y in' z) (λ _. get_or-replicate (length ws) i 0 0 in')
+  pub guarded_laws : IsShareRule (guarded_rule rule)
+  guarded_laws = record {
+    places = λ a ws.
+        cond_both (fair a ws) _ _ (λ l. length l ≡ length ws) (λ _. laws.places a ws)
+        (λ _. length-replicate {A = ℕ} (length ws) 0);
+    whole = λ a ws h. ap sum (guarded_rule-fair a ws h) ∙ laws.whole a ws h;
+    near = λ a ws i h in'.
+        subst (λ l. Near a (sum ws) (slice_index ws i) (slice_index l i))
+        (sym (guarded_rule-fair a ws h)) (laws.near a ws i h in');
+    idle = λ a ws i in' z.
+        cond_both (fair a ws) _ _ (λ l. slice_index l i ≡ 0)
+        (λ h.
+        let near = subst (λ w. Near a (sum ws) w (slice_index (rule a ws) i)) z (laws.near a ws i h in') in
+        near_zero a (sum ws) (slice_index (rule a ws) i) near)
+        (λ _. get_or-replicate (length ws) i 0 0 in');
+    refused = λ a ws h. cond-false _ _ _ h;
+  }

@@ -1,4 +1,5 @@
 pub mod Fair
+pub mod Laws
 pub mod Rules
 pub mod Guarding
 pub mod Fairness

@@ -3,7 +3,7 @@ ghost use Rattle.std.specs.Prelude.{◌≡◌, ◌-◌, ◌<◌, ◌≤◌, IfNo
 ghost use Rattle.shares.specs.Fair.{max_weights, max_total};
 ghost use Rattle.shares.specs.Counts.{IsCut};
 
-use crate::largest::Parted;
+use crate::largest::Rounding;
 use std::cmp::Ordering;
 
 // How many turns guess where the cut lies before they halve.
@@ -37,17 +37,17 @@ pub(crate) struct Span<'a> {
 
 impl<'a> Span<'a> {
     // The cut of the litres that are left may lie anywhere among the remainders.
-    pub(crate) fn whole(parted: &'a Parted) -> Span<'a>
-        ensures rems { result.rems.now ≡ parted.now.sheet.now }
-        ensures wanted { result.wanted ≡ parted.now.rest }
+    pub(crate) fn whole(rounding: &'a Rounding) -> Span<'a>
+        ensures rems { result.rems.now ≡ rounding.now.sheet.now }
+        ensures wanted { result.wanted ≡ rounding.now.rest }
     {
         Span {
-            rems: parted.sheet,
-            wanted: parted.rest,
+            rems: rounding.sheet,
+            wanted: rounding.rest,
             low: 0,
-            high: parted.job.total,
+            high: rounding.sharing.total,
             // A cast: there is no `u64::from` of a `usize`.
-            reach: parted.sheet.len() as u64,
+            reach: rounding.sheet.len() as u64,
             past: 0,
         }
     }

@@ -2,15 +2,15 @@
 #![tactic(auto)]
 
 mod cut;
-mod fair;
 mod largest;
 mod rule;
 mod running;
+mod sharing;
 
-pub use fair::{MAX_QUANTITY, MAX_WEIGHT, MAX_WEIGHTS};
 pub use largest::LargestRemainder;
-pub use rule::ShareRule;
+pub use rule::{ProportionalRule, ShareRule};
 pub use running::Running;
+pub use sharing::{MAX_QUANTITY, MAX_WEIGHT, MAX_WEIGHTS, Sharing};
 
 #[cfg(test)]
 mod tests;

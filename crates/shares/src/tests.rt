@@ -1,8 +1,8 @@
 // Both rules on worked figures, and at each limit and one past it.
-use crate::fair::{MAX_QUANTITY, MAX_WEIGHT};
 use crate::largest::LargestRemainder;
 use crate::rule::ShareRule;
 use crate::running::Running;
+use crate::sharing::{MAX_QUANTITY, MAX_WEIGHT};
 
 // Whether the rule gives these shares, over a sheet that held other numbers.
 fn gives<R: ShareRule>(rule: &R, quantity: u64, weights: &[u64], shares: &[u64; 3]) -> bool {

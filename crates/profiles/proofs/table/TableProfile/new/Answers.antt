@@ -1,18 +1,18 @@
 use Rattle.std.proofs.Common.{◌≡◌, ℕ, get_or, replicate, refl, ap, ◌∙◌, arith}
 use Rattle.std.proofs.lemmas.Bool.{cond_both}
-use Rattle.profiles.specs.Asked.{asked, place}
-use Rattle.profiles.specs.Laws.{both}
+use Rattle.profiles.specs.Asked.{is_asked, place}
+use Rattle.profiles.specs.Laws.{factors_of}
 use Rattle.profiles.specs.Tables.{table_segments, table_cells}
 use Rattle.profiles.proofs.Limits.{replicate_within}
 use Rattle.profiles.proofs.table.TableProfile.new.Goals as goal
 
-nought-at : (n k : ℕ) → get_or {A = ℕ} (replicate n 0) k 0 ≡ 0
-nought-at n k = omega (arith, replicate_within n 0 0 k (omega arith))
+get_or-replicate-zero : (n k : ℕ) → get_or {A = ℕ} (replicate n 0) k 0 ≡ 0
+get_or-replicate-zero n k = omega (arith, replicate_within n 0 0 k (omega arith))
 
 pub returns : goal.returns
 returns c = record {
   holds = c.filled.ensures;
-  nought = λ segment t season.
-      let z = ap (λ l. get_or l (place segment t) 0) c.filled.ensures ∙ nought-at table_cells (place segment t) in
-      cond_both (asked table_segments segment t season) _ _ (λ x. x ≡ both 0 0) (λ _. ap (λ x. both x x) z) (λ _. refl);
+  zero = λ segment w.
+      let z = ap (λ l. get_or l (place segment w) 0) c.filled.ensures ∙ get_or-replicate-zero table_cells (place segment w) in
+      cond_both (is_asked table_segments segment w) _ _ (λ x. x ≡ factors_of 0 0) (λ _. ap (λ x. factors_of x x) z) (λ _. refl);
 }

@@ -5,7 +5,7 @@ use Rattle.shares.proofs.cut.Span.whole.Goals as goal
 
 pub invariant_of-result : goal.invariant_of-result
 invariant_of-result c =
-    let parted = c.args.parted.now in
-    let job = parted.job in
-    let f = cuttable job.quantity job.weights.now job.total parted.rest parted.sheet.now job.fairly job.whole parted.rems parted.remain in
+    let rounding = c.args.rounding.now in
+    let sharing = rounding.sharing in
+    let f = cuttable sharing.quantity sharing.weights.now sharing.total rounding.rest rounding.sheet.now sharing.fairly sharing.whole rounding.rems rounding.remain in
     record { places = f.places; limit = f.limit; order = omega arith; reached = sym (reach_all _); passed = f.none; enough = f.most; few = omega arith }

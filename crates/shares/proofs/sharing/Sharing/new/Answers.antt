@@ -4,9 +4,9 @@ use Rattle.std.proofs.lemmas.Iterator.{YieldsList-from_slice}
 use Rattle.std.proofs.lemmas.Iterator.Search.{any_from_yields_List}
 use Rattle.std.proofs.iter.runs.Made.{chains}
 use Rattle.shares.specs.Fair.{max_weight}
-use Rattle.shares.specs.Fairness.{too_much, too_heavy, weightless, all_well, total_fits}
-use Rattle.shares.proofs.fair.Fair.new.Goals as goal
-use Rattle.shares.proofs.fair.Fair.new.Goals.{After-any}
+use Rattle.shares.specs.Fairness.{too_much, too_heavy, weightless, all_well, total_fits, parts, total_limit}
+use Rattle.shares.proofs.sharing.Sharing.new.Goals as goal
+use Rattle.shares.proofs.sharing.Sharing.new.Goals.{After-any}
 
 heavy : (c : After-any) → list_any (λ w. ltb max_weight w) c.args.weights.now ≡ c.any.result
 heavy c = sym (any_from_yields_List (λ w. ltb max_weight w) _ _ c.any.result c.any.ensures.ran (YieldsList-from_slice c.args.weights.now cc) (λ x b q k. search (rules, tests)))
@@ -33,4 +33,10 @@ pub invariant_of-result : goal.invariant_of-result
 invariant_of-result c =
     let total : c.sum-total.result ≡ sum c.args.weights.now = search rules in
     let light = heavy (goal.at.invariant_of-result c).After-any ∙ c.if-any.false in
-    record { fairly = all_well _ _ (omega arith) (omega arith) light (omega arith); whole = total }
+    let fairly = all_well _ _ (omega arith) (omega arith) light (omega arith) in
+    let p = parts _ c.args.weights.now fairly in
+    record {
+      fairly = fairly;
+      whole = total;
+      limit = omega (arith, p.count, total_limit c.args.weights.now p.weights);
+    }

@@ -2,7 +2,7 @@ use Rattle.std.proofs.Common.{refl, sym, arith}
 use Rattle.std.proofs.lemmas.List.Edits.{fill_by_more}
 use Rattle.shares.specs.Rules.{running_share}
 use Rattle.shares.specs.RunningLaws.{turn, upto_none, all_written}
-use Rattle.shares.proofs.running.RunningFairRule.share_fairly.Goals as goal
+use Rattle.shares.proofs.running.RunningProportionalRule.share_fairly.Goals as goal
 
 pub loop-i-init : goal.loop-i-init
 loop-i-init c = record { sum = refl; given = sym (upto_none _ _); shares = λ k h. absurd (omega arith) }
@@ -10,14 +10,14 @@ loop-i-init c = record { sum = refl; given = sym (upto_none _ _); shares = λ k 
 pub overflow_sub-out : goal.overflow_sub-out
 overflow_sub-out c =
     let l = c.loop-i.invariant in
-    (turn _ _ _ _ _ _ c.args.job.now.fairly c.loop-i-test.true l.sum l.given c.floor-so_far.ensures.value).rises
+    (turn _ _ _ _ _ _ c.args.sharing.now.fairly c.loop-i-test.true l.sum l.given c.floor-so_far.ensures.value).rises
 
 pub loop-i-preserved : goal.loop-i-preserved
 loop-i-preserved c =
-    let job = c.args.job.now in
+    let sharing = c.args.sharing.now in
     let l = c.loop-i.invariant in
-    let t = turn job.quantity job.weights.now _ _ _ _ job.fairly c.loop-i-test.true l.sum l.given c.floor-so_far.ensures.value in
-    let more = fill_by_more (running_share job.quantity job.weights.now) c.loop-i.out c.loop-i.i 0 (omega arith) l.shares in
+    let t = turn sharing.quantity sharing.weights.now _ _ _ _ sharing.fairly c.loop-i-test.true l.sum l.given c.floor-so_far.ensures.value in
+    let more = fill_by_more (running_share sharing.quantity sharing.weights.now) c.loop-i.out c.loop-i.i 0 (omega arith) l.shares in
     record { sum = t.sum_next; given = t.given_next; shares = rw t.share more }
 
 pub returns : goal.returns

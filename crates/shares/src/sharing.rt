@@ -1,6 +1,6 @@
 // A quantity and weights by which it can be shared.
 ghost use Rattle.std.specs.Prelude.{◌≡◌, ◌*◌, ◌/◌, ◌%◌, ◌≤◌, true, false, IfSome, IfNone, sum};
-ghost use Rattle.shares.specs.Fair.{max_quantity, fair};
+ghost use Rattle.shares.specs.Fair.{max_quantity, max_total, fair};
 
 // The most litres that are shared at once.
 pub const MAX_QUANTITY: u64 = 1_000_000_000;
@@ -13,17 +13,18 @@ pub const MAX_WEIGHT: u64 = 2_000_000;
 
 // The quantity and the weights are within their limits, and the weights are not all 0.
 #[derive(Clone, Copy)]
-pub(crate) struct Fair<'a> {
-    pub(crate) quantity: u64,
-    pub(crate) weights: &'a [u64],
-    pub(crate) total: u64,
-    ghost fairly: { fair quantity weights.now ≡ true },
-    ghost whole: { total ≡ sum weights.now },
+pub struct Sharing<'a> {
+    pub quantity: u64,
+    pub weights: &'a [u64],
+    pub total: u64,
+    pub ghost fairly: { fair quantity weights.now ≡ true },
+    pub ghost whole: { total ≡ sum weights.now },
+    pub ghost limit: { total ≤ max_total },
 }
 
-impl<'a> Fair<'a> {
+impl<'a> Sharing<'a> {
     // The sharing of the quantity by the weights, if it can be shared by them.
-    pub(crate) fn new(quantity: u64, weights: &'a [u64]) -> Option<Fair<'a>>
+    pub fn new(quantity: u64, weights: &'a [u64]) -> Option<Sharing<'a>>
         ensures some { IfSome result (λ f. (f.quantity ≡ quantity) × (f.weights.now ≡ weights.now)) }
         ensures none { IfNone result (fair quantity weights.now ≡ false) }
     {
@@ -37,7 +38,7 @@ impl<'a> Fair<'a> {
         if total == 0 {
             return None;
         }
-        Some(Fair {
+        Some(Sharing {
             quantity,
             weights,
             total,
@@ -45,7 +46,7 @@ impl<'a> Fair<'a> {
     }
 
     // The exact proportion of `weight`, rounded down.
-    pub(crate) fn floor(&self, weight: u64) -> u64
+    pub fn floor(&self, weight: u64) -> u64
         requires { weight ≤ sum self.now.weights.now }
         ensures value { result ≡ self.now.quantity * weight / sum self.now.weights.now }
         ensures most { result ≤ max_quantity }
@@ -54,7 +55,7 @@ impl<'a> Fair<'a> {
     }
 
     // What the rounding cuts off, in parts of the sum of the weights.
-    pub(crate) fn remainder(&self, weight: u64) -> u64
+    pub fn remainder(&self, weight: u64) -> u64
         requires { weight ≤ sum self.now.weights.now }
         ensures { result ≡ self.now.quantity * weight % sum self.now.weights.now }
     {

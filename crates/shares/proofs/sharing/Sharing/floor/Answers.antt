@@ -1,6 +1,6 @@
 use Rattle.std.proofs.Common.{arith}
 use Rattle.shares.specs.Fairness.{product_fits, parts, quotient_most}
-use Rattle.shares.proofs.fair.Fair.floor.Goals as goal
+use Rattle.shares.proofs.sharing.Sharing.floor.Goals as goal
 
 pub overflow_mul-result : goal.overflow_mul-result
 overflow_mul-result c = record { fits = product_fits _ _ _ c.args.self.now.fairly c.requires }

@@ -1,31 +1,31 @@
 use Rattle.std.proofs.Common.{◌≡◌, get_or, refl, sym, length-set, arith, rules}
-use Rattle.shares.specs.Rules.{remainders, left}
+use Rattle.shares.specs.Rules.{remainders, litres_left}
 use Rattle.shares.specs.Counts.{IsCut}
 use Rattle.shares.specs.LargestLaws.{length-remainders, Handed, handed_over, handed_at, handed_none, handed_under, handed_all, sofar_none, sofar_more}
-use Rattle.shares.proofs.largest.LargestRemainderFairRule.share_fairly.Goals as goal
-use Rattle.shares.proofs.largest.LargestRemainderFairRule.share_fairly.Goals.{After-cut-cut, then-r-cut, else-r-cut+then-r-cut-2+then-more-gt0, else-r-cut+else-r-cut-2, else-r-cut-2-via-then-r-cut-2+else-more-gt0, else-r-cut-2-via-else-r-cut-2}
+use Rattle.shares.proofs.largest.LargestRemainderProportionalRule.share_fairly.Goals as goal
+use Rattle.shares.proofs.largest.LargestRemainderProportionalRule.share_fairly.Goals.{After-cut-cut, then-r-cut, else-r-cut+then-r-cut-2+then-more-gt0, else-r-cut+else-r-cut-2, else-r-cut-2-via-then-r-cut-2+else-more-gt0, else-r-cut-2-via-else-r-cut-2}
 
--- the cut is found among the remainders of the job
-found : (c : After-cut-cut) → IsCut (remainders c.args.job.now.quantity c.args.job.now.weights.now) (left c.args.job.now.quantity c.args.job.now.weights.now) c.cut-cut.result.at c.cut-cut.result.more
-found c = rw (c.new.result.rems, c.new.result.remain, c.new.ensures.same_job) at c.cut-cut.ensures
+-- the cut is found among the remainders of the sharing
+found : (c : After-cut-cut) → IsCut (remainders c.args.sharing.now.quantity c.args.sharing.now.weights.now) (litres_left c.args.sharing.now.quantity c.args.sharing.now.weights.now) c.cut-cut.result.at c.cut-cut.result.more
+found c = rw (c.new.result.rems, c.new.result.remain, c.new.ensures.same_sharing) at c.cut-cut.ensures
 
 pub loop-i-init : goal.loop-i-init
 loop-i-init c =
-    let job = c.args.job.now in
-    let rems = rw c.new.ensures.same_job at c.new.result.rems in
-    let long = length-remainders job.quantity job.weights.now in
+    let sharing = c.args.sharing.now in
+    let rems = rw c.new.ensures.same_sharing at c.new.result.rems in
+    let long = length-remainders sharing.quantity sharing.weights.now in
     let cut = found (goal.at.loop-i-init c).After-cut-cut in
     record { long = search (rules, rems, long); sofar = sofar_none _ _ _ _ _ cut (search (rules, rems)) }
 
 pub loop-i-preserved : goal.loop-i-preserved
 loop-i-preserved c =
-    let job = c.args.job.now in
+    let sharing = c.args.sharing.now in
     let so_far = c.loop-i.invariant.sofar in
-    let here : get_or c.loop-i.out c.loop-i.i 0 ≡ get_or (remainders job.quantity job.weights.now) c.loop-i.i 0 = so_far.still c.loop-i.i (omega arith) in
+    let here : get_or c.loop-i.out c.loop-i.i 0 ≡ get_or (remainders sharing.quantity sharing.weights.now) c.loop-i.i 0 = so_far.still c.loop-i.i (omega arith) in
     let i = c.loop-i-test.true in
     let x = c.floor.ensures.value in
     let cut = found (goal.at.loop-i-preserved c).After-cut-cut in
-    let turn : Handed job.quantity job.weights.now c.loop-i.i c.floor.result c.cut-cut.result.at c.if-r-cut.extra c.if-r-cut.more =
+    let turn : Handed sharing.quantity sharing.weights.now c.loop-i.i c.floor.result c.cut-cut.result.at c.if-r-cut.extra c.if-r-cut.more =
     elim c.if-r-cut.branch [
       | then-r-cut w ↦ rw (w.extra-is, w.more-is) (handed_over _ _ _ _ _ _ _ i x cut so_far.rest (omega arith))
       | else-r-cut+then-r-cut-2+then-more-gt0 w ↦ rw (w.extra-is, w.more-is) (handed_at _ _ _ _ _ _ _ i x cut so_far.rest (omega arith) w.if-more-gt0.true)
