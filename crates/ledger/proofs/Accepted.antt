@@ -1,9 +1,10 @@
 -- What is known of each call that is not refused.
-use Rattle.std.proofs.Common.{◌≡◌, ℕ, ◌+◌, ◌<◌, ◌≤◌, Bool, true, false, cond, ltb, leb, List, length, ℤ, Some, None, Option, refl}
+use Rattle.std.proofs.Common.{◌≡◌, ℕ, ◌+◌, ◌<◌, ◌≤◌, Bool, true, false, cond, ltb, leb, List, length, take, Some, None, Option, refl}
 use Rattle.std.proofs.lemmas.Bool.{not-false, ltb-false, leb-true, leb-false, and_parts, or_parts}
 use Rattle.refusals.specs.declared.Refusal.{Refusal}
 use Rattle.refusals.specs.declared.Refusal.TheVariants.{NoWeight}
-use Rattle.profiles.specs.Asked.{within}
+use Rattle.profiles.specs.Asked.{is_in_range}
+use Rattle.profiles.specs.declared.weather.Weather.{Weather}
 use Rattle.ledger.specs.declared.book.Book.{Book}
 use Rattle.ledger.specs.declared.day.OpenDay.{OpenDay}
 use Rattle.ledger.specs.declared.day.MeasuredDay.{MeasuredDay}
@@ -12,25 +13,27 @@ use Rattle.rows.specs.declared.point.Point.{Point}
 use Rattle.rows.specs.Limits.{max_traders, max_points}
 use Rattle.ledger.specs.Limits.{max_litres, max_rate, max_shared, max_opened, last_day}
 use Rattle.ledger.specs.Grounds.{unless}
-use Rattle.rows.specs.Rows.{sheet_fits, particulars_fit, every, may_share, is_free, is_served}
+use Rattle.rows.specs.Rows.{sheet_fits, particulars_fit, may_share, is_free, is_served}
 use Rattle.ledger.specs.Accounts.{metered_sum}
-use Rattle.ledger.specs.Days.{admit_fault, point_fault, is_idle, open_fault, is_open, enter_fault, loss_of, inflow_fault, is_measured}
-use Rattle.ledger.specs.Sharing.{Tells, share_grounds, no_weight, share_fault}
+use Rattle.ledger.specs.Days.{trader_admission_fault, point_admission_fault, opening_fault, entry_fault, loss_of, measurement_fault}
+use Rattle.ledger.specs.Sharing.{ShareOutInputs, share_out_grounds, first_grounds, has_no_weight, share_out_fault}
 use Rattle.ledger.proofs.Grounds.{some_none, no_ground}
+use Rattle.std.specs.List.{list_all}
+use Rattle.ledger.specs.Tokens.{is_idle, is_open, is_measured}
 
 pub record Admits (l : Book) : Type 0 where
   pub room : l.counts.traders < max_traders
 
-pub admits : (l : Book) → admit_fault l ≡ None → Admits l
+pub admits : (l : Book) → trader_admission_fault l ≡ None → Admits l
 admits l e = record { room = leb-false _ _ (no_ground _ _ _ e).0 }
 
 pub record PointFits (l : Book) (s : List Point) (g : Particulars) : Type 0 where
   pub short : length s ≤ max_points
   pub trader : g.trader < l.counts.traders
-  pub particulars : particulars_fit g.segment g.digits g.litres_per_unit g.reading g.scale_factor ≡ true
+  pub particulars : particulars_fit g ≡ true
   pub room : l.counts.points < length s
 
-pub point_fits : (l : Book) (s : List Point) (g : Particulars) → point_fault l s g ≡ None → PointFits l s g
+pub point_fits : (l : Book) (s : List Point) (g : Particulars) → point_admission_fault l s g ≡ None → PointFits l s g
 point_fits l s g e =
     let a = no_ground _ _ _ e in
     let b = no_ground _ _ _ a.1 in
@@ -44,22 +47,22 @@ point_fits l s g e =
       room = leb-false _ _ d.0;
     }
 
-pub record Opens (l : Book) (temperature : ℤ) (season : ℕ) : Type 0 where
-  pub weather : within temperature season ≡ true
+pub record Opens (l : Book) (weather : Weather) : Type 0 where
+  pub in_range : is_in_range weather ≡ true
   pub idle : is_idle l.phase ≡ true
   pub shared : l.counts.shared < max_shared
   pub opened : l.counts.opened < max_opened
   pub calendar : l.next_day ≤ last_day
 
-pub day_opens : (l : Book) (temperature : ℤ) (season : ℕ) → open_fault l temperature season ≡ None → Opens l temperature season
-day_opens l temperature season e =
+pub day_opens : (l : Book) (weather : Weather) → opening_fault l weather ≡ None → Opens l weather
+day_opens l weather e =
     let a = no_ground _ _ _ e in
     let b = no_ground _ _ _ a.1 in
     let c = no_ground _ _ _ b.1 in
     let d = or_parts (leb max_shared l.counts.shared) _ c.0 in
     let f = or_parts (leb max_opened l.counts.opened) _ d.1 in
     record {
-      weather = not-false _ a.0;
+      in_range = not-false _ a.0;
       idle = not-false _ b.0;
       shared = leb-false _ _ d.0;
       opened = leb-false _ _ f.0;
@@ -71,7 +74,7 @@ pub record Enters (l : Book) (day : OpenDay) (t litres : ℕ) : Type 0 where
   pub running : is_open l.phase day.number ≡ true
   pub room : metered_sum l.traders + litres ≤ max_litres
 
-pub enters : (l : Book) (day : OpenDay) (t litres : ℕ) → enter_fault l day t litres ≡ None → Enters l day t litres
+pub enters : (l : Book) (day : OpenDay) (t litres : ℕ) → entry_fault l day t litres ≡ None → Enters l day t litres
 enters l day t litres e =
     let a = no_ground _ _ _ e in
     let b = no_ground _ _ _ a.1 in
@@ -85,7 +88,7 @@ pub record TakesInflow (l : Book) (day : OpenDay) (inflow rate : ℕ) : Type 0 w
   pub running : is_open l.phase day.number ≡ true
   pub enough : loss_of inflow rate + metered_sum l.traders ≤ inflow
 
-pub takes_inflow : (l : Book) (day : OpenDay) (inflow rate : ℕ) → inflow_fault l day inflow rate ≡ None → TakesInflow l day inflow rate
+pub takes_inflow : (l : Book) (day : OpenDay) (inflow rate : ℕ) → measurement_fault l day inflow rate ≡ None → TakesInflow l day inflow rate
 takes_inflow l day inflow rate e =
     let a = no_ground _ _ _ e in
     let b = no_ground _ _ _ a.1 in
@@ -101,12 +104,12 @@ takes_inflow l day inflow rate e =
 -- what is known where none of its first grounds refuses a share-out
 pub record Sharable (l : Book) (day : MeasuredDay) (s : List Point) (segments : ℕ) : Type 0 where
   pub fits : sheet_fits l.counts.points s ≡ true
-  pub rows : every (may_share l.counts.traders) s l.counts.points ≡ true
+  pub rows : list_all (may_share l.counts.traders) (take l.counts.points s) ≡ true
   pub running : is_measured l.phase day.number ≡ true
-  pub free : every is_free s l.counts.points ≡ true
-  pub served : every (is_served segments) s l.counts.points ≡ true
+  pub free : list_all is_free (take l.counts.points s) ≡ true
+  pub served : list_all (is_served segments) (take l.counts.points s) ≡ true
 
-pub sharable : (l : Book) (day : MeasuredDay) (s : List Point) (segments uses shares : ℕ) → share_grounds l day s segments uses shares ≡ None → Sharable l day s segments
+pub sharable : (l : Book) (day : MeasuredDay) (s : List Point) (segments uses shares : ℕ) → share_out_grounds l s day segments uses shares ≡ None → Sharable l day s segments
 sharable l day s segments uses shares e =
     let a = no_ground _ _ _ e in
     let b = no_ground _ _ _ a.1 in
@@ -128,7 +131,8 @@ neither None true w e = some_none w e
 neither None false w e = (refl, refl)
 neither (Some v) b w e = some_none v e
 
-pub shares_out : (l : Book) (day : MeasuredDay) (s : List Point) (tells : Tells) (segments uses shares : ℕ) → share_fault l day s tells segments uses shares ≡ None → Sharable l day s segments × (no_weight l s tells ≡ false)
-shares_out l day s tells segments uses shares e =
-    let both = neither (share_grounds l day s segments uses shares) (no_weight l s tells) NoWeight e in
-    (sharable l day s segments uses shares both.0, both.1)
+pub shares_out : (l : Book) (s : List Point) (day : MeasuredDay) (m : ShareOutInputs) → share_out_fault l s day m ≡ None →
+    Sharable l day s m.segments × (has_no_weight l s m.tells ≡ false)
+shares_out l s day m e =
+    let both = neither (first_grounds l s day m) (has_no_weight l s m.tells) NoWeight e in
+    (sharable l day s m.segments (length m.sheets.uses) (length m.sheets.shares) both.0, both.1)

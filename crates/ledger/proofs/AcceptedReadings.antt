@@ -6,9 +6,9 @@ use Rattle.rows.specs.declared.point.Point.{Point}
 use Rattle.ledger.specs.declared.slip.Slip.{Slip}
 use Rattle.rows.specs.Limits.{max_points}
 use Rattle.ledger.specs.Limits.{max_readings}
-use Rattle.rows.specs.Rows.{row_at, sheet_fits, dial_fits, in_range}
+use Rattle.rows.specs.Rows.{row_at, sheet_fits, dial_fits, row_fits}
 use Rattle.rows.specs.Bookings.{is_slip_of, may_book}
-use Rattle.ledger.specs.Readings.{not_bookable, read_fault, book_fault, hand_fault, withdraw_fault}
+use Rattle.ledger.specs.Readings.{is_unbookable, reading_fault, booking_fault, hand_over_fault, withdrawal_fault}
 use Rattle.ledger.proofs.Grounds.{no_ground}
 
 -- the sheet fits, and the point is one of those admitted
@@ -34,12 +34,12 @@ open_slip p number e =
 
 pub record Reads (l : Book) (s : List Point) (k reading : ℕ) : Type 0 where
   pub there : PointThere l s k
-  pub ranges : in_range (row_at s k) ≡ true
+  pub ranges : row_fits (row_at s k) ≡ true
   pub dial : dial_fits (row_at s k).digits reading ≡ true
   pub free : (row_at s k).slip ≡ 0
   pub left : l.counts.readings < max_readings
 
-pub reads : (l : Book) (s : List Point) (k reading : ℕ) → read_fault l s k reading ≡ None → Reads l s k reading
+pub reads : (l : Book) (s : List Point) (k reading : ℕ) → reading_fault l s k reading ≡ None → Reads l s k reading
 reads l s k reading e =
     let a = no_ground _ _ _ e in
     let b = no_ground _ _ _ a.1 in
@@ -57,15 +57,15 @@ reads l s k reading e =
 
 pub record Books (l : Book) (s : List Point) (slip : Slip) : Type 0 where
   pub there : PointThere l s slip.point
-  pub ranges : in_range (row_at s slip.point) ≡ true
+  pub ranges : row_fits (row_at s slip.point) ≡ true
   pub owned : (row_at s slip.point).trader < l.counts.traders
   pub held : OpenSlip (row_at s slip.point) slip.number
   pub left : l.counts.bookings < l.counts.readings
 
-bookable : (l : Book) (s : List Point) (slip : Slip) → PointThere l s slip.point → not (may_book l.counts.traders (row_at s slip.point)) ≡ false → not_bookable l s slip ≡ false → Books l s slip
+bookable : (l : Book) (s : List Point) (slip : Slip) → PointThere l s slip.point → not (may_book l.counts.traders (row_at s slip.point)) ≡ false → is_unbookable l s slip ≡ false → Books l s slip
 bookable l s slip there may none =
     let row = row_at s slip.point in
-    let a = and_parts (in_range row) (ltb row.trader l.counts.traders) (not-false _ may) in
+    let a = and_parts (row_fits row) (ltb row.trader l.counts.traders) (not-false _ may) in
     let b = or_parts (not (is_slip_of row slip.number)) (leb l.counts.readings l.counts.bookings) none in
     record {
       there = there;
@@ -75,7 +75,7 @@ bookable l s slip there may none =
       left = leb-false _ _ b.1;
     }
 
-pub books : (l : Book) (s : List Point) (slip : Slip) → book_fault l s slip ≡ None → Books l s slip
+pub books : (l : Book) (s : List Point) (slip : Slip) → booking_fault l s slip ≡ None → Books l s slip
 books l s slip e =
     let a = no_ground _ _ _ e in
     let b = no_ground _ _ _ a.1 in
@@ -88,7 +88,7 @@ pub record HandsOver (l : Book) (s : List Point) (slip : Slip) (t : ℕ) : Type 
   pub trader : t < l.counts.traders
   pub other : (row_at s slip.point).trader ≢ t
 
-pub hands_over : (l : Book) (s : List Point) (slip : Slip) (t : ℕ) → hand_fault l s slip t ≡ None → HandsOver l s slip t
+pub hands_over : (l : Book) (s : List Point) (slip : Slip) (t : ℕ) → hand_over_fault l s slip t ≡ None → HandsOver l s slip t
 hands_over l s slip t e =
     let a = no_ground _ _ _ e in
     let b = no_ground _ _ _ a.1 in
@@ -106,7 +106,7 @@ pub record Withdraws (l : Book) (s : List Point) (slip : Slip) : Type 0 where
   pub there : PointThere l s slip.point
   pub held : OpenSlip (row_at s slip.point) slip.number
 
-pub withdraws : (l : Book) (s : List Point) (slip : Slip) → withdraw_fault l s slip ≡ None → Withdraws l s slip
+pub withdraws : (l : Book) (s : List Point) (slip : Slip) → withdrawal_fault l s slip ≡ None → Withdraws l s slip
 withdraws l s slip e =
     let a = no_ground _ _ _ e in
     let b = no_ground _ _ _ a.1 in

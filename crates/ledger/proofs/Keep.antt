@@ -16,18 +16,20 @@ use Rattle.rows.specs.declared.point.Particulars.{Particulars}
 use Rattle.rows.specs.declared.point.Point.{Point}
 use Rattle.rows.specs.Limits.{max_traders}
 use Rattle.ledger.specs.Limits.{max_litres, max_shared, max_opened, last_day}
-use Rattle.rows.specs.Near.{Near}
-use Rattle.ledger.specs.Accounts.{no_trader, account_at, metered_at, metered_sum, new_book, unmetered, settled, credited_to, reach, day_holds, pending, Sound, Settling}
-use Rattle.ledger.specs.Days.{admit_fault, admit_book, point_fault, point_book, open_fault, open_book, is_open, enter_fault, enter_book, loss_of, quantity_of, inflow_fault, inflow_book, is_measured, ended, abandon_open_fault, abandon_open_book, abandon_measured_fault, abandon_measured_book}
-use Rattle.ledger.specs.Sharing.{Tells, Rule, day_quantity, day_loss, day_uses, day_shares, share_fault, shared_book, share_book}
-use Rattle.ledger.specs.History.{LawfulRule}
+use Rattle.ledger.specs.Accounts.{no_trader, account_at, metered_at, metered_sum, new_book, unmetered_trader, settled_trader, with_shares, account_limit, day_adds_up, running_days, IsSound, CanSettle}
+use Rattle.ledger.specs.Days.{trader_admission_fault, trader_admission, point_admission_fault, point_admission, opening_fault, opening, entry_fault, metered_entry, loss_of, quantity_of, measurement_fault, measurement, ended_book, abandonment_fault, abandonment}
+use Rattle.ledger.specs.Sharing.{ShareOutInputs, day_quantity, day_loss, day_consumptions, day_shares, share_out_fault, shared_book, share_out}
 use Rattle.ledger.proofs.Grounds.{by_unless}
 use Rattle.ledger.proofs.Accepted.{admits, point_fits, day_opens, enters, takes_inflow, shares_out}
 use Rattle.ledger.proofs.Traders.{near_none, near_pos, near_more, near_add, account_entered, metered_sum-entered, metered_sum_none, metered_le, account_unmetered, account_settled, new_at, length_credited_to, metered_credited_to, near_credited_to}
+use Rattle.rows.specs.Within.{IsWithin}
+use Rattle.ledger.specs.Tokens.{DayToken, is_open, is_measured}
+use Rattle.profiles.specs.declared.weather.Weather.{Weather}
+use Rattle.shares.specs.Laws.{Rule, IsShareRule}
 
 -- A new ledger.
 
-pub new_sound : (first : ℕ) → Sound (new_book first)
+pub new_sound : (first : ℕ) → IsSound (new_book first)
 new_sound first =
     record {
       places = refl;
@@ -40,15 +42,15 @@ new_sound first =
       readings = omega arith;
       bookings = omega arith;
       losses = omega arith;
-      accounts = λ t. subst (λ (u : Trader). Near u.account 0) (sym (new_at max_traders t)) near_none;
+      accounts = λ t. subst (λ (u : Trader). IsWithin u.account 0) (sym (new_at max_traders t)) near_none;
       corrections = near_none;
     }
 
 -- A trader.
 
-pub admit_sound : (l : Book) → Sound l → Sound (admit_book l)
-admit_sound l h =
-    by_unless Sound (admit_fault l) _ l
+pub admit_sound : (l : Book) (s : List Point) → IsSound l → IsSound (trader_admission l s).book
+admit_sound l s h =
+    by_unless IsSound (trader_admission_fault l) _ l
     (λ e.
     let a = (admits l e).room in
     record {
@@ -69,9 +71,9 @@ admit_sound l h =
 
 -- A point.
 
-pub point_sound : (l : Book) (s : List Point) (g : Particulars) → Sound l → Sound (point_book l s g)
+pub point_sound : (l : Book) (s : List Point) (g : Particulars) → IsSound l → IsSound (point_admission l s g).book
 point_sound l s g h =
-    by_unless Sound (point_fault l s g) _ l
+    by_unless IsSound (point_admission_fault l s g) _ l
     (λ e.
     let f = point_fits l s g e in
     let short = f.short in
@@ -94,11 +96,11 @@ point_sound l s g h =
 
 -- A day opened.
 
-pub open_sound : (l : Book) (temperature : ℤ) (season : ℕ) → Sound l → Sound (open_book l temperature season)
-open_sound l temperature season h =
-    by_unless Sound (open_fault l temperature season) _ l
+pub open_sound : (l : Book) (s : List Point) (weather : Weather) → IsSound l → IsSound (opening l s weather).book
+open_sound l s weather h =
+    by_unless IsSound (opening_fault l weather) _ l
     (λ e.
-    let o = day_opens l temperature season e in
+    let o = day_opens l weather e in
     let few = o.shared in
     let less = o.opened in
     record {
@@ -120,14 +122,14 @@ open_sound l temperature season h =
 -- Litres entered.
 
 -- an open day's figures do not hang on what was metered
-open_holds : (ph : Phase) (k m m' next : ℕ) → is_open ph k ≡ true → day_holds ph m next ≡ true → day_holds ph m' next ≡ true
+open_holds : (ph : Phase) (k m m' next : ℕ) → is_open ph k ≡ true → day_adds_up ph m next ≡ true → day_adds_up ph m' next ≡ true
 open_holds Idle k m m' next e h = absurd (false≢true e)
 open_holds (Open n w) k m m' next e h = h
 open_holds (Measured n w g x q) k m m' next e h = absurd (false≢true e)
 
-pub enter_sound : (l : Book) (day : OpenDay) (t litres : ℕ) → Sound l → Sound (enter_book l day t litres)
-enter_sound l day t litres h =
-    by_unless Sound (enter_fault l day t litres) _ l
+pub enter_sound : (l : Book) (s : List Point) (day : OpenDay) (t litres : ℕ) → IsSound l → IsSound (metered_entry l s day t litres).book
+enter_sound l s day t litres h =
+    by_unless IsSound (entry_fault l day t litres) _ l
     (λ e.
     let n = enters l day t litres e in
     let own = n.trader in
@@ -146,7 +148,7 @@ enter_sound l day t litres h =
       readings = h.readings;
       bookings = h.bookings;
       losses = h.losses;
-      accounts = λ u. subst (λ (z : ℤ). Near z (reach l.counts)) (sym (account_entered l.traders t litres u)) (h.accounts u);
+      accounts = λ u. subst (λ (z : ℤ). IsWithin z (account_limit l.counts)) (sym (account_entered l.traders t litres u)) (h.accounts u);
       corrections = h.corrections;
     })
     h
@@ -154,12 +156,12 @@ enter_sound l day t litres h =
 -- The inflow taken.
 
 -- an open day lies in the calendar, and is to be ended
-pub open_calendar : (ph : Phase) (k m next : ℕ) → is_open ph k ≡ true → day_holds ph m next ≡ true → leb next last_day ≡ true
+pub open_calendar : (ph : Phase) (k m next : ℕ) → is_open ph k ≡ true → day_adds_up ph m next ≡ true → leb next last_day ≡ true
 open_calendar Idle k m next e h = absurd (false≢true e)
 open_calendar (Open n w) k m next e h = h
 open_calendar (Measured n w g x q) k m next e h = absurd (false≢true e)
 
-pub open_pending : (ph : Phase) (k : ℕ) → is_open ph k ≡ true → pending ph ≡ 1
+pub open_pending : (ph : Phase) (k : ℕ) → is_open ph k ≡ true → running_days ph ≡ 1
 open_pending Idle k e = absurd (false≢true e)
 open_pending (Open n w) k e = refl
 open_pending (Measured n w g x q) k e = absurd (false≢true e)
@@ -168,9 +170,9 @@ open_pending (Measured n w g x q) k e = absurd (false≢true e)
 whole_again : (g x m : ℕ) → x + m ≤ g → g - x - m + x + m ≡ g
 whole_again g x m h = omega arith
 
-pub inflow_sound : (l : Book) (day : OpenDay) (inflow rate : ℕ) → Sound l → Sound (inflow_book l day inflow rate)
-inflow_sound l day inflow rate h =
-    by_unless Sound (inflow_fault l day inflow rate) _ l
+pub inflow_sound : (l : Book) (s : List Point) (day : OpenDay) (inflow rate : ℕ) → IsSound l → IsSound (measurement l s day inflow rate).book
+inflow_sound l s day inflow rate h =
+    by_unless IsSound (measurement_fault l day inflow rate) _ l
     (λ e.
     let t = takes_inflow l day inflow rate e in
     let m = metered_sum l.traders in
@@ -199,43 +201,40 @@ inflow_sound l day inflow rate h =
 -- A day ended.
 
 -- between days: no trader has metered litres, and the accounts are in their reach
-idle_sound : (f : Trader → Trader) → ((t : Trader) → (f t).metered ≡ 0) → (ts : List Trader) (l : Book) → length ts ≡ max_traders → l.traders ≡ map f ts → l.phase ≡ Idle → l.counts.traders ≤ max_traders → l.counts.points ≤ 4096 → l.counts.opened ≤ max_opened → l.counts.shared ≤ max_shared → l.counts.readings ≤ 1_000_000 → l.counts.bookings ≤ l.counts.readings → l.loss ≤ l.counts.shared * max_litres → ((t : ℕ) → Near (account_at (map f ts) t) (reach l.counts)) → Near l.correction (l.counts.bookings * 5_000_000_000_000) → Sound l
+idle_sound : (f : Trader → Trader) → ((t : Trader) → (f t).metered ≡ 0) → (ts : List Trader) (l : Book) → length ts ≡ max_traders → l.traders ≡ map f ts → l.phase ≡ Idle → l.counts.traders ≤ max_traders → l.counts.points ≤ 4096 → l.counts.opened ≤ max_opened → l.counts.shared ≤ max_shared → l.counts.readings ≤ 1_000_000 → l.counts.bookings ≤ l.counts.readings → l.loss ≤ l.counts.shared * max_litres → ((t : ℕ) → IsWithin (account_at (map f ts) t) (account_limit l.counts)) → IsWithin l.correction (l.counts.bookings * 5_000_000_000_000) → IsSound l
 idle_sound f z ts l places e i traders points opened shared readings bookings losses accounts corrections =
     let none : metered_sum l.traders ≡ 0 = ap metered_sum e ∙ metered_sum_none f z ts in
-    let due : pending l.phase ≡ 0 = ap pending i in
+    let due : running_days l.phase ≡ 0 = ap running_days i in
     record {
       places = ap length e ∙ length-map ts f ∙ places;
       traders = traders;
       points = points;
       metered = omega arith;
-      day = ap (λ (ph : Phase). day_holds ph (metered_sum l.traders) l.next_day) i ∙ eq-eqb _ 0 none;
+      day = ap (λ (ph : Phase). day_adds_up ph (metered_sum l.traders) l.next_day) i ∙ eq-eqb _ 0 none;
       opened = opened;
       shared = omega arith;
       readings = readings;
       bookings = bookings;
       losses = losses;
-      accounts = λ t. subst (λ u. Near (account_at u t) (reach l.counts)) (sym e) (accounts t);
+      accounts = λ t. subst (λ u. IsWithin (account_at u t) (account_limit l.counts)) (sym e) (accounts t);
       corrections = corrections;
     }
 
-pub ended_sound : (l : Book) → Sound l → Sound (ended l)
+pub ended_sound : (l : Book) → IsSound l → IsSound (ended_book l)
 ended_sound l h =
     let few = h.shared in
-    idle_sound unmetered (λ t. refl) l.traders (ended l) h.places refl refl h.traders h.points h.opened (omega arith)
+    idle_sound unmetered_trader (λ t. refl) l.traders (ended_book l) h.places refl refl h.traders h.points h.opened (omega arith)
     h.readings h.bookings h.losses
-    (λ t. subst (λ (z : ℤ). Near z (reach l.counts)) (sym (account_unmetered l.traders t)) (h.accounts t))
+    (λ t. subst (λ (z : ℤ). IsWithin z (account_limit l.counts)) (sym (account_unmetered l.traders t)) (h.accounts t))
     h.corrections
 
-pub abandon_open_sound : (l : Book) (day : OpenDay) → Sound l → Sound (abandon_open_book l day)
-abandon_open_sound l day h = by_unless Sound (abandon_open_fault l day) (ended l) l (λ e. ended_sound l h) h
-
-pub abandon_measured_sound : (l : Book) (day : MeasuredDay) → Sound l → Sound (abandon_measured_book l day)
-abandon_measured_sound l day h = by_unless Sound (abandon_measured_fault l day) (ended l) l (λ e. ended_sound l h) h
+pub abandon_sound : (l : Book) (s : List Point) (day : DayToken) → IsSound l → IsSound (abandonment l s day day).book
+abandon_sound l s day h = by_unless IsSound (abandonment_fault l day) (ended_book l) l (λ e. ended_sound l h) h
 
 -- A day shared out.
 
 -- a rule never gives more than there is
-pub shares_within : {rule : Rule} → LawfulRule rule → (q : ℕ) (ws : List ℕ) → sum (rule q ws) ≤ q
+pub shares_within : {rule : Rule} → IsShareRule rule → (q : ℕ) (ws : List ℕ) → sum (rule q ws) ≤ q
 shares_within {rule} law q ws =
     ⊎_elim
     (λ yes. let e = law.whole q ws yes in omega arith)
@@ -246,9 +245,9 @@ shares_within {rule} law q ws =
 pub record DayIs (ph : Phase) (m next : ℕ) : Type 0 where
   pub whole : day_quantity ph + day_loss ph + m ≤ max_litres
   pub calendar : next ≤ last_day
-  pub due : pending ph ≡ 1
+  pub due : running_days ph ≡ 1
 
-pub measured_is : (ph : Phase) (k m next : ℕ) → is_measured ph k ≡ true → day_holds ph m next ≡ true → DayIs ph m next
+pub measured_is : (ph : Phase) (k m next : ℕ) → is_measured ph k ≡ true → day_adds_up ph m next ≡ true → DayIs ph m next
 measured_is Idle k m next e h = absurd (false≢true e)
 measured_is (Open n w) k m next e h = absurd (false≢true e)
 measured_is (Measured n w g x q) k m next e h =
@@ -259,7 +258,7 @@ measured_is (Measured n w g x q) k m next e h =
     record { whole = omega arith; calendar = leb-true _ _ b.1; due = refl }
 
 -- the accounts before the metered sums are settled
-pub settling : (l : Book) (s : List Point) (shares : List ℕ) (i : ℕ) → Sound l → sum shares ≤ max_litres → Settling (credited_to l.traders s shares i)
+pub settling : (l : Book) (s : List Point) (shares : List ℕ) (i : ℕ) → IsSound l → sum shares ≤ max_litres → CanSettle (with_shares l.traders s shares i)
 settling l s shares i h few =
     let ts = l.traders in
     record {
@@ -272,7 +271,7 @@ settling l s shares i h few =
           omega arith;
       within =
           λ t.
-          let a = (near_credited_to ts s shares i (reach l.counts) h.accounts t).high in
+          let a = (near_credited_to ts s shares i (account_limit l.counts) h.accounts t).high in
           let b = sum_by-take-le (λ (n : ℕ). n) shares i in
           let c = h.shared in
           let d = h.bookings in
@@ -280,33 +279,34 @@ settling l s shares i h few =
           omega (arith, ints);
     }
 
-pub shared_sound : (l : Book) (s : List Point) (shares : List ℕ) → Sound l → pending l.phase ≡ 1 → sum shares + day_loss l.phase + metered_sum l.traders ≤ max_litres → Sound (shared_book l s shares)
+pub shared_sound : (l : Book) (s : List Point) (shares : List ℕ) → IsSound l → running_days l.phase ≡ 1 → sum shares + day_loss l.phase + metered_sum l.traders ≤ max_litres → IsSound (shared_book l s shares)
 shared_sound l s shares h due total =
     let ts = l.traders in
     let n = l.counts.points in
-    let credits = credited_to ts s shares n in
+    let credits = with_shares ts s shares n in
     let few = h.shared in
     let lost = h.losses in
-    let up : reach l.counts + max_litres ≤ reach (shared_book l s shares).counts = omega arith in
-    idle_sound settled (λ t. refl) credits (shared_book l s shares) (length_credited_to ts s shares n ∙ h.places) refl refl h.traders
+    let up : account_limit l.counts + max_litres ≤ account_limit (shared_book l s shares).counts = omega arith in
+    idle_sound settled_trader (λ t. refl) credits (shared_book l s shares) (length_credited_to ts s shares n ∙ h.places) refl refl h.traders
     h.points h.opened (omega arith) h.readings h.bookings (omega arith)
     (λ t.
-    let a = near_credited_to ts s shares n (reach l.counts) h.accounts t in
+    let a = near_credited_to ts s shares n (account_limit l.counts) h.accounts t in
     let b = sum_by-take-le (λ (n : ℕ). n) shares n in
     let e = metered_credited_to ts s shares n t in
     let c = metered_le ts t in
     let y = metered_at credits t in
-    subst (λ (z : ℤ). Near z (reach (shared_book l s shares).counts)) (sym (account_settled credits t))
+    subst (λ (z : ℤ). IsWithin z (account_limit (shared_book l s shares).counts)) (sym (account_settled credits t))
     (near_more _ _ _ (near_add (account_at credits t) (pos y) _ y a (near_pos y)) (omega arith)))
     h.corrections
 
-pub share_sound : (l : Book) (day : MeasuredDay) (s : List Point) (tells : Tells) (rule : Rule) (segments uses shares : ℕ) → LawfulRule rule → Sound l → Sound (share_book l day s tells rule segments uses shares)
-share_sound l day s tells rule segments uses shares law h =
-    by_unless Sound (share_fault l day s tells segments uses shares) (shared_book l s (day_shares l s tells rule)) l
+pub share_sound : (l : Book) (s : List Point) (day : MeasuredDay) (m : ShareOutInputs) → IsShareRule m.rule → IsSound l → IsSound (share_out l s day m).book
+share_sound l s day m law h =
+    let shares = day_shares l s m.tells m.rule in
+    by_unless IsSound (share_out_fault l s day m) (shared_book l s shares) l
     (λ e.
-    let o = shares_out l day s tells segments uses shares e in
+    let o = shares_out l s day m e in
     let is = measured_is l.phase day.number _ _ o.0.running h.day in
     let whole = is.whole in
-    let most = shares_within law (day_quantity l.phase) (day_uses l s tells) in
-    shared_sound l s (day_shares l s tells rule) h is.due (omega arith))
+    let most = shares_within law (day_quantity l.phase) (day_consumptions l s m.tells) in
+    shared_sound l s shares h is.due (omega arith))
     h

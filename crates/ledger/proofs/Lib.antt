@@ -3,6 +3,7 @@ pub mod HandedBack
 pub mod Withdrawals
 pub mod Accepted
 pub mod AcceptedReadings
+pub mod Becoming
 pub mod Booking
 pub mod Traders
 pub mod Places

@@ -6,26 +6,26 @@ use Rattle.std.proofs.lemmas.Bool.{cases_lt}
 use Rattle.std.proofs.lemmas.Int.{ints}
 use Rattle.ledger.specs.declared.book.Trader.{Trader}
 use Rattle.rows.specs.declared.point.Point.{Point}
-use Rattle.rows.specs.Near.{Near}
-use Rattle.ledger.specs.Accounts.{no_trader, account_at, metered_at, metered_sum, credited, credited_to, entered, settled, unmetered}
+use Rattle.ledger.specs.Accounts.{no_trader, account_at, metered_at, metered_sum, with_credit, with_shares, with_metered, settled_trader, unmetered_trader}
 use Rattle.rows.specs.Rows.{no_row, row_at}
 use Rattle.ledger.proofs.Places.{by_eqb, set_at}
+use Rattle.rows.specs.Within.{IsWithin}
 
 -- Integers near nought.
 
-pub near_none : Near (pos 0) 0
+pub near_none : IsWithin (pos 0) 0
 near_none = record { high = omega (arith, ints); low = omega (arith, ints) }
 
-pub near_pos : (n : ℕ) → Near (pos n) n
+pub near_pos : (n : ℕ) → IsWithin (pos n) n
 near_pos n = record { high = omega (arith, ints); low = omega (arith, ints) }
 
-pub near_more : (z : ℤ) (b c : ℕ) → Near z b → b ≤ c → Near z c
+pub near_more : (z : ℤ) (b c : ℕ) → IsWithin z b → b ≤ c → IsWithin z c
 near_more z b c h e =
     let p = h.high in
     let q = h.low in
     record { high = omega (arith, ints); low = omega (arith, ints) }
 
-pub near_add : (z y : ℤ) (b c : ℕ) → Near z b → Near y c → Near (z +ℤ y) (b + c)
+pub near_add : (z y : ℤ) (b c : ℕ) → IsWithin z b → IsWithin y c → IsWithin (z +ℤ y) (b + c)
 near_add z y b c h e =
     let p = h.high in
     let q = h.low in
@@ -33,7 +33,7 @@ near_add z y b c h e =
     let v = e.low in
     record { high = omega (arith, ints); low = omega (arith, ints) }
 
-pub near_sub : (z y : ℤ) (b c : ℕ) → Near z b → Near y c → Near (z -ℤ y) (b + c)
+pub near_sub : (z y : ℤ) (b c : ℕ) → IsWithin z b → IsWithin y c → IsWithin (z -ℤ y) (b + c)
 near_sub z y b c h e =
     let p = h.high in
     let q = h.low in
@@ -97,21 +97,21 @@ metered_sum-set (t ∷ ts) (suc j) x e =
 
 -- An entry.
 
-pub metered_sum-entered : (ts : List Trader) (t q : ℕ) → t < length ts → metered_sum (entered ts t q) ≡ metered_sum ts + q
+pub metered_sum-entered : (ts : List Trader) (t q : ℕ) → t < length ts → metered_sum (with_metered ts t q) ≡ metered_sum ts + q
 metered_sum-entered ts t q h =
     let x : Trader = record { account = account_at ts t; metered = metered_at ts t + q } in
     let e : metered_sum (set ts t x) + metered_at ts t ≡ metered_sum ts + (metered_at ts t + q) = sum_by-set (λ (u : Trader). u.metered) ts t x no_trader h in
     omega arith
 
 -- a trader has his litres, and every other what he had
-pub metered_entered : (ts : List Trader) (j q t : ℕ) → j < length ts → metered_at (entered ts j q) t ≡ cond (eqb j t) q 0 + metered_at ts t
+pub metered_entered : (ts : List Trader) (j q t : ℕ) → j < length ts → metered_at (with_metered ts j q) t ≡ cond (eqb j t) q 0 + metered_at ts t
 metered_entered ts j q t h =
     set_at (λ (u : Trader). u.metered) ts j (record { account = account_at ts j; metered = metered_at ts j + q }) no_trader t h
     ∙ by_eqb j t (λ b. cond b (metered_at ts j + q) (metered_at ts t) ≡ cond b q 0 + metered_at ts t)
     (λ e. ap (λ (k : ℕ). metered_at ts k + q) e ∙ add_comm (metered_at ts t) q)
     (λ n. sym (zero-add (metered_at ts t)))
 
-pub account_entered : (ts : List Trader) (j q t : ℕ) → account_at (entered ts j q) t ≡ account_at ts t
+pub account_entered : (ts : List Trader) (j q t : ℕ) → account_at (with_metered ts j q) t ≡ account_at ts t
 account_entered ts j q t = account_set ts j _ t refl
 
 -- The end of a day.
@@ -126,12 +126,12 @@ metered_none f z [] t = refl
 metered_none f z (u ∷ ts) zero = z u
 metered_none f z (u ∷ ts) (suc t) = metered_none f z ts t
 
-pub account_unmetered : (ts : List Trader) (t : ℕ) → account_at (map unmetered ts) t ≡ account_at ts t
+pub account_unmetered : (ts : List Trader) (t : ℕ) → account_at (map unmetered_trader ts) t ≡ account_at ts t
 account_unmetered [] t = refl
 account_unmetered (u ∷ ts) zero = refl
 account_unmetered (u ∷ ts) (suc t) = account_unmetered ts t
 
-pub account_settled : (ts : List Trader) (t : ℕ) → account_at (map settled ts) t ≡ account_at ts t +ℤ pos (metered_at ts t)
+pub account_settled : (ts : List Trader) (t : ℕ) → account_at (map settled_trader ts) t ≡ account_at ts t +ℤ pos (metered_at ts t)
 account_settled [] t = refl
 account_settled (u ∷ ts) zero = refl
 account_settled (u ∷ ts) (suc t) = account_settled ts t
@@ -146,48 +146,48 @@ new_at (suc n) (suc t) = new_at n t
 -- The shares credited, row by row.
 
 module _ (ts : List Trader) (s : List Point) (shares : List ℕ) where
-  pub credited_to_none : ts ≡ credited_to ts s shares 0
-  unfolding credited_to
+  pub credited_to_none : ts ≡ with_shares ts s shares 0
+  unfolding with_shares
   credited_to_none = refl
 
-  pub credited_to_more : (i : ℕ) → credited (credited_to ts s shares i) (row_at s i).trader (pos (get_or shares i 0)) ≡ credited_to ts s shares (i + 1)
-  unfolding credited_to
+  pub credited_to_more : (i : ℕ) → with_credit (with_shares ts s shares i) (row_at s i).trader (pos (get_or shares i 0)) ≡ with_shares ts s shares (i + 1)
+  unfolding with_shares
   credited_to_more i = rw add-one refl
 
-  pub length_credited_to : (i : ℕ) → length (credited_to ts s shares i) ≡ length ts
-  unfolding credited_to
+  pub length_credited_to : (i : ℕ) → length (with_shares ts s shares i) ≡ length ts
+  unfolding with_shares
   length_credited_to zero = refl
-  length_credited_to (suc i) = length-set (credited_to ts s shares i) _ _ ∙ length_credited_to i
+  length_credited_to (suc i) = length-set (with_shares ts s shares i) _ _ ∙ length_credited_to i
 
-  pub metered_credited_to : (i t : ℕ) → metered_at (credited_to ts s shares i) t ≡ metered_at ts t
-  unfolding credited_to
+  pub metered_credited_to : (i t : ℕ) → metered_at (with_shares ts s shares i) t ≡ metered_at ts t
+  unfolding with_shares
   metered_credited_to zero t = refl
-  metered_credited_to (suc i) t = metered_set (credited_to ts s shares i) (row_at s i).trader _ t refl ∙ metered_credited_to i t
+  metered_credited_to (suc i) t = metered_set (with_shares ts s shares i) (row_at s i).trader _ t refl ∙ metered_credited_to i t
 
-  pub metered_sum_credited_to : (i : ℕ) → metered_sum (credited_to ts s shares i) ≡ metered_sum ts
-  unfolding credited_to
+  pub metered_sum_credited_to : (i : ℕ) → metered_sum (with_shares ts s shares i) ≡ metered_sum ts
+  unfolding with_shares
   metered_sum_credited_to zero = refl
-  metered_sum_credited_to (suc i) = metered_sum-set (credited_to ts s shares i) (row_at s i).trader _ refl ∙ metered_sum_credited_to i
+  metered_sum_credited_to (suc i) = metered_sum-set (with_shares ts s shares i) (row_at s i).trader _ refl ∙ metered_sum_credited_to i
 
   -- the accounts grow by no more than the shares so far
-  pub near_credited_to : (i b : ℕ) → ((t : ℕ) → Near (account_at ts t) b) → (t : ℕ) → Near (account_at (credited_to ts s shares i) t) (b + sum (take i shares))
-  unfolding credited_to
+  pub near_credited_to : (i b : ℕ) → ((t : ℕ) → IsWithin (account_at ts t) b) → (t : ℕ) → IsWithin (account_at (with_shares ts s shares i) t) (b + sum (take i shares))
+  unfolding with_shares
   near_credited_to zero b h t = near_more _ b _ (h t) (omega arith)
   near_credited_to (suc i) b h t =
       let m = sum-take-suc shares i in
       let c = b + sum (take (suc i) shares) in
-      let before = credited_to ts s shares i in
+      let before = with_shares ts s shares i in
       let j = (row_at s i).trader in
       let q = get_or shares i 0 in
-      at_set (λ (u : Trader). Near u.account c) before j _ t
+      at_set (λ (u : Trader). IsWithin u.account c) before j _ t
       (near_more _ _ c (near_add (account_at before j) (pos q) _ q (near_credited_to i b h j) (near_pos q)) (omega arith))
       (near_more _ _ c (near_credited_to i b h t) (omega arith))
 
 -- the first n rows, taken as a list of their own with its own shares
-pub credited_to_part : (ts : List Trader) (s : List Point) (shares : List ℕ) (n k : ℕ) → k ≤ n → credited_to ts (take n s) (take n shares) k ≡ credited_to ts s shares k
-unfolding credited_to
+pub credited_to_part : (ts : List Trader) (s : List Point) (shares : List ℕ) (n k : ℕ) → k ≤ n → with_shares ts (take n s) (take n shares) k ≡ with_shares ts s shares k
+unfolding with_shares
 credited_to_part ts s shares n zero h = refl
 credited_to_part ts s shares n (suc k) h =
-    ap (λ (us : List Trader). credited us (row_at (take n s) k).trader (pos (get_or (take n shares) k 0))) (credited_to_part ts s shares n k (omega arith))
-    ∙ ap (λ (p : Point). credited (credited_to ts s shares k) p.trader (pos (get_or (take n shares) k 0))) (get_or-take n s k no_row (omega arith))
-    ∙ ap (λ (q : ℕ). credited (credited_to ts s shares k) (row_at s k).trader (pos q)) (get_or-take n shares k 0 (omega arith))
+    ap (λ (us : List Trader). with_credit us (row_at (take n s) k).trader (pos (get_or (take n shares) k 0))) (credited_to_part ts s shares n k (omega arith))
+    ∙ ap (λ (p : Point). with_credit (with_shares ts s shares k) p.trader (pos (get_or (take n shares) k 0))) (get_or-take n s k no_row (omega arith))
+    ∙ ap (λ (q : ℕ). with_credit (with_shares ts s shares k) (row_at s k).trader (pos q)) (get_or-take n shares k 0 (omega arith))

@@ -7,7 +7,7 @@ use Rattle.rows.specs.declared.point.Point.{Point}
 use Rattle.ledger.specs.declared.slip.Slip.{Slip}
 use Rattle.rows.specs.Limits.{max_points}
 use Rattle.rows.specs.Bookings.{is_slip_of}
-use Rattle.ledger.specs.Readings.{withdraw_fault}
+use Rattle.ledger.specs.Readings.{withdrawal_fault}
 use Rattle.rows.specs.Rows.{no_row}
 
 is_slip : (p : Point) (n : ℕ) → 0 < n → p.slip ≡ n → is_slip_of p n ≡ true
@@ -15,7 +15,7 @@ is_slip p n some e =
     let other : p.slip ≢ 0 = λ z. let q : ⊥ = omega arith in q in
     and_from _ _ (not_from_false _ (ne_eqb _ _ other)) (eq-eqb _ _ e)
 
-pub withdrawn : (n : ℕ) (l : Book) (p : Point) (s : Slip) → l.counts.points ≤ n → n ≤ max_points → p.slip ≡ s.number → 0 < s.number → s.point < l.counts.points → withdraw_fault l (replicate n p) s ≡ None
+pub withdrawn : (n : ℕ) (l : Book) (p : Point) (s : Slip) → l.counts.points ≤ n → n ≤ max_points → p.slip ≡ s.number → 0 < s.number → s.point < l.counts.points → withdrawal_fault l (replicate n p) s ≡ None
 withdrawn n l p s room short e some there =
     let len = length-replicate n p in
     let place : s.point < n = omega arith in

@@ -1,6 +1,6 @@
 -- The calls of a ledger but for the share-out and the readings: when each is refused, and its
 -- outcome.
-use Rattle.std.specs.Prelude.{ℕ, ◌+◌, ◌-◌, ◌*◌, ◌/◌, Bool, true, false, not, ◌||◌, List, [], ◌∷◌, map, length, take, ℤ, pos, Option, Result, ◌==◌, nat_le, nat_lt, slice_set, sum_by, Ok, Err}
+use Rattle.std.specs.Prelude.{ℕ, ◌+◌, ◌-◌, ◌*◌, ◌/◌, not, ◌||◌, List, [], ◌∷◌, map, length, take, ℤ, Option, Result, nat_le, nat_lt, slice_set, sum_by}
 use Rattle.std.specs.List.{list_all}
 use Rattle.refusals.specs.declared.Refusal.{Refusal}
 use Rattle.refusals.specs.declared.Refusal.TheVariants.{PointSheetLength, NoSuchTrader, Weather, Litres, Particulars, ForeignSheet, NotRunning, DayRunning, NoMoreDays, TooMuchMetered, InflowTooSmall, NoPlace}
@@ -14,7 +14,6 @@ use Rattle.rows.specs.Rows.{sheet_fits, particulars_fit, admitted_row, is_summab
 use Rattle.ledger.specs.declared.book.Book.{Book}
 use Rattle.ledger.specs.declared.day.OpenDay.{OpenDay}
 use Rattle.ledger.specs.declared.day.MeasuredDay.{MeasuredDay}
-use Rattle.ledger.specs.declared.day.Phase.{Phase}
 use Rattle.ledger.specs.declared.day.Phase.TheVariants.{Idle, Open, Measured}
 use Rattle.ledger.specs.Accounts.{account_at, metered_at, metered_sum, with_metered, unmetered_trader}
 use Rattle.ledger.specs.Grounds.{first_ground, call_answer}

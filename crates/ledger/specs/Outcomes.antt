@@ -14,20 +14,20 @@ pub record Outcome (A : Type 0) : Type 0 where
 -- the outcome of a call on the ledger l and the sheet s: the accepted one where no ground is met;
 -- else the ground is returned and all stays
 abbrev pub call_outcome : {A : Type 0} → Option Refusal → Book → List Point → Outcome A → Outcome (Result A Refusal)
-call_outcome ground l s accepted =
+call_outcome fault l s accepted =
     record {
-      answer = call_answer ground accepted.answer;
-      book = unless ground accepted.book l;
-      rows = unless ground accepted.rows s;
+      answer = call_answer fault accepted.answer;
+      book = unless fault accepted.book l;
+      rows = unless fault accepted.rows s;
     }
 
 -- the same of a call that hands its token back
 abbrev pub token_outcome : {A T : Type 0} → T → Option Refusal → Book → List Point → Outcome A → Outcome (Result A (Refused T))
-token_outcome token ground l s accepted =
+token_outcome token fault l s accepted =
     record {
-      answer = token_answer ground token accepted.answer;
-      book = unless ground accepted.book l;
-      rows = unless ground accepted.rows s;
+      answer = token_answer fault token accepted.answer;
+      book = unless fault accepted.book l;
+      rows = unless fault accepted.rows s;
     }
 
 -- a call with this outcome returned r, and left the ledger at l and the sheet at s

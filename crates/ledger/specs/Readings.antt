@@ -7,7 +7,6 @@ use Rattle.rows.specs.declared.point.Point.{Point}
 use Rattle.rows.specs.Bookings.{row_with_slip, kept_correction, booked_row, is_slip_of, may_book}
 use Rattle.rows.specs.Rows.{row_at, sheet_fits, dial_fits, row_fits}
 use Rattle.ledger.specs.declared.book.Book.{Book}
-use Rattle.ledger.specs.declared.book.Counts.{Counts}
 use Rattle.ledger.specs.declared.slip.Slip.{Slip}
 use Rattle.ledger.specs.Accounts.{with_credit}
 use Rattle.ledger.specs.Grounds.{first_ground}

@@ -15,7 +15,7 @@ use Rattle.ledger.specs.declared.book.Book.{Book}
 use Rattle.ledger.specs.declared.book.Trader.{Trader}
 use Rattle.ledger.specs.declared.day.MeasuredDay.{MeasuredDay}
 use Rattle.ledger.specs.declared.day.Phase.{Phase}
-use Rattle.ledger.specs.declared.day.Phase.TheVariants.{Idle, Open, Measured}
+use Rattle.ledger.specs.declared.day.Phase.TheVariants.{Idle, Measured}
 use Rattle.ledger.specs.declared.day.SharedOut.{SharedOut}
 use Rattle.ledger.specs.Accounts.{account_at, with_shares, settled_trader}
 use Rattle.ledger.specs.Grounds.{first_ground, unless}
@@ -35,6 +35,13 @@ pub record ShareOutInputs : Type 0 where
   pub segments : ℕ
   pub rule : Rule
   pub sheets : WorkSheets
+
+abbrev pub work_sheets_of : List ℕ → List ℕ → WorkSheets
+work_sheets_of uses shares = record { uses = uses; shares = shares }
+
+abbrev pub inputs_of : Tells → ℕ → Rule → List ℕ → List ℕ → ShareOutInputs
+inputs_of tells segments rule uses shares =
+    record { tells = tells; segments = segments; rule = rule; sheets = work_sheets_of uses shares }
 
 -- The day's figures.
 

@@ -43,12 +43,10 @@ impl Ledger {
     // The rows of the points admitted: the sheet's first ones, where it is long enough for them and
     // not over the limit.
     fn rows<'a>(&self, sheet: &'a [Point]) -> Result<&'a [Point], Refusal>
-        ensures {
-            let n = self.now.book.counts.points in
+        ensures { let n = self.now.book.counts.points in
             MatchResult result
             (λ rows. (sheet_fits n sheet.now ≡ true) × (rows.now ≡ take n sheet.now))
-            (λ why. (sheet_fits n sheet.now ≡ false) × (why ≡ PointSheetLength))
-        }
+            (λ why. (sheet_fits n sheet.now ≡ false) × (why ≡ PointSheetLength)) }
     {
         if sheet.len() > MAX_POINTS {
             return Err(Refusal::PointSheetLength);
@@ -60,10 +58,8 @@ impl Ledger {
 
     // A trader's record.
     fn trader(&self, number: u32) -> Result<Trader, Refusal>
-        ensures {
-            result ≡ call_answer (trader_fault self.now.book number)
-            (trader_at self.now.book.traders number)
-        }
+        ensures { result ≡ call_answer (trader_fault self.now.book number)
+            (trader_at self.now.book.traders number) }
     {
         if number < self.book.counts.traders {
             Ok(self.book.traders[number as usize])

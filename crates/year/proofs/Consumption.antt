@@ -3,10 +3,10 @@ use Rattle.std.proofs.Common.{◌≡◌, ℕ, ◌+◌, cond, List, [], ◌∷◌
 use Rattle.std.proofs.lemmas.Int.{ints}
 use Rattle.rows.specs.declared.point.Particulars.{Particulars}
 use Rattle.rows.specs.Bookings.{correction_of}
-use Rattle.ledger.specs.Sharing.{Tells}
 use Rattle.ledger.proofs.Places.{by_eqb}
 use Rattle.year.specs.Settlements.{Day, Settlement, joined, day_shared, booked}
 use Rattle.year.specs.Quantities.{shares_of, shares_since, use_to, consumption_of, corrections_of}
+use Rattle.profiles.specs.Laws.{Tells}
 
 abbrev pub Consumed : List Settlement → Type 0
 Consumed c = (j : ℕ) → pos (shares_of c j) +ℤ corrections_of c j ≡ pos (consumption_of c j) +ℤ pos (shares_since c j)

@@ -11,14 +11,14 @@ use Rattle.profiles.specs.declared.factors.Factors.{Factors}
 use Rattle.shares.specs.Fair.{fair, max_quantity, max_weights, max_weight}
 use Rattle.shares.specs.Fairness.{weightless}
 use Rattle.rows.specs.declared.point.Point.{Point}
-use Rattle.rows.specs.Rows.{row_at, no_row, profile_use, profile_uses}
-use Rattle.ledger.specs.Sharing.{Tells, Rule}
-use Rattle.ledger.specs.History.{LawfulProfile, LawfulRule}
+use Rattle.rows.specs.Rows.{row_at, no_row, profile_consumption, profile_consumptions}
 use Rattle.ledger.proofs.Keep.{shares_within}
 use Rattle.year.specs.Settlements.{Day, Settlement, points_in}
 use Rattle.year.specs.Quantities.{given_for, scale_of, told_for, weight_of, quantity_on}
 use Rattle.year.specs.Law.{Proportional, FairDay, RowAgrees}
 use Rattle.year.proofs.Rows.{is_fit, row_fitting}
+use Rattle.profiles.specs.Laws.{Tells, TellsFactors}
+use Rattle.shares.specs.Laws.{Rule, IsShareRule}
 
 -- Weights.
 
@@ -27,9 +27,9 @@ abbrev pub weights : List Settlement → Day → Tells → ℕ → List ℕ
 weights c d tells n = map (weight_of c d tells) (range_with_len 0 n)
 
 -- what the share-out works out from the rows is what the settlements give
-pub uses_are : (c : List Settlement) (d : Day) (tells : Tells) (told : ℕ → Factors) (n : ℕ) (s : List Point) → n ≤ length s → ((k : ℕ) → told k ≡ tells k d.temperature d.season) → ((k : ℕ) → k < n → RowAgrees c k (row_at s k)) → profile_uses told (take n s) ≡ weights c d tells n
+pub uses_are : (c : List Settlement) (d : Day) (tells : Tells) (told : ℕ → Factors) (n : ℕ) (s : List Point) → n ≤ length s → ((k : ℕ) → told k ≡ tells k d.temperature d.season) → ((k : ℕ) → k < n → RowAgrees c k (row_at s k)) → profile_consumptions told (take n s) ≡ weights c d tells n
 uses_are c d tells told n s room is rows =
-    let f : Point → ℕ = λ p. profile_use p.scale_factor (told p.segment).day in
+    let f : Point → ℕ = λ p. profile_consumption p.scale_factor (told p.segment).day in
     let long : length (take n s) ≡ n = length-take n s ∙ (let m : min n (length s) ≡ n = omega arith in m) in
     fill_by_all (weight_of c d tells) (map f (take n s)) n 0 (length-map (take n s) f ∙ long)
     (λ k h.
@@ -40,16 +40,16 @@ uses_are c d tells told n s room is rows =
     in
     get_or-map f (take n s) k no_row 0 (omega arith)
     ∙ ap f (get_or-take n s k no_row h)
-    ∙ ap (λ (x : ℕ). profile_use x (told p.segment).day) a.scale
-    ∙ ap (profile_use (scale_of c k)) same)
+    ∙ ap (λ (x : ℕ). profile_consumption x (told p.segment).day) a.scale
+    ∙ ap (profile_consumption (scale_of c k)) same)
 
-use_small : (scale factor : ℕ) → scale ≤ 2_000_000 → factor ≤ 10_000_000 → profile_use scale factor ≤ max_weight
+use_small : (scale factor : ℕ) → scale ≤ 2_000_000 → factor ≤ 10_000_000 → profile_consumption scale factor ≤ max_weight
 use_small scale factor h k =
     let a = mul-le-mul h k in
     let b : scale * factor ≤ 10_000_000 * 2_000_000 = omega arith in
     div-le_of_le-mul 10_000_000 b
 
-pub weight_small : (c : List Settlement) (d : Day) (tells : Tells) (k : ℕ) (p : Point) → LawfulProfile tells → RowAgrees c k p → is_fit p ≡ true → weight_of c d tells k ≤ max_weight
+pub weight_small : (c : List Settlement) (d : Day) (tells : Tells) (k : ℕ) (p : Point) → TellsFactors tells → RowAgrees c k p → is_fit p ≡ true → weight_of c d tells k ≤ max_weight
 weight_small c d tells k p law a f =
     let most = (row_fitting p f).scale_most in
     let same = a.scale in
@@ -84,14 +84,14 @@ is_fair a ws few short small some =
     (and_from (eqb (count_by (λ w. ltb max_weight w) ws) 0) _ (eq-eqb _ 0 (none_over ws small)) (lt-ltb _ _ some)))
 
 -- a lawful rule's shares are in proportion, and nought where nobody has weight
-proportional : (rule : Rule) (a : ℕ) (ws : List ℕ) (k : ℕ) → LawfulRule rule → a ≤ max_quantity → length ws ≤ max_weights → All (λ w. w ≤ max_weight) ws → k < length ws → Proportional a (sum ws) (get_or ws k 0) (get_or (rule a ws) k 0)
+proportional : (rule : Rule) (a : ℕ) (ws : List ℕ) (k : ℕ) → IsShareRule rule → a ≤ max_quantity → length ws ≤ max_weights → All (λ w. w ≤ max_weight) ws → k < length ws → Proportional a (sum ws) (get_or ws k 0) (get_or (rule a ws) k 0)
 proportional rule a ws k law few short small h =
     record {
       near = λ some. law.near a ws k (is_fair a ws few short small some) h;
       none = λ none. ap (λ (xs : List ℕ). get_or xs k 0) (law.refused a ws (weightless a ws none)) ∙ get_or-replicate (length ws) k 0 0 h;
     }
 
-pub fair_day : (c : List Settlement) (d : Day) (tells : Tells) (rule : Rule) (qs : List ℕ) → LawfulRule rule → quantity_on d ≤ max_quantity → points_in c ≤ max_weights → ((k : ℕ) → k < points_in c → weight_of c d tells k ≤ max_weight) → qs ≡ rule (quantity_on d) (weights c d tells (points_in c)) → FairDay c d tells qs
+pub fair_day : (c : List Settlement) (d : Day) (tells : Tells) (rule : Rule) (qs : List ℕ) → IsShareRule rule → quantity_on d ≤ max_quantity → points_in c ≤ max_weights → ((k : ℕ) → k < points_in c → weight_of c d tells k ≤ max_weight) → qs ≡ rule (quantity_on d) (weights c d tells (points_in c)) → FairDay c d tells qs
 fair_day c d tells rule qs law few short small is k h =
     let n = points_in c in
     let f = weight_of c d tells in
@@ -105,7 +105,7 @@ fair_day c d tells rule qs law few short small is k h =
 -- The whole quantity.
 
 -- where there is weight, or nothing to share, the shares come to the quantity
-pub whole_shared : (rule : Rule) (a : ℕ) (ws : List ℕ) → LawfulRule rule → a ≤ max_quantity → length ws ≤ max_weights → All (λ w. w ≤ max_weight) ws → (ltb 0 a && eqb (sum ws) 0) ≡ false → sum (rule a ws) ≡ a
+pub whole_shared : (rule : Rule) (a : ℕ) (ws : List ℕ) → IsShareRule rule → a ≤ max_quantity → length ws ≤ max_weights → All (λ w. w ≤ max_weight) ws → (ltb 0 a && eqb (sum ws) 0) ≡ false → sum (rule a ws) ≡ a
 whole_shared rule a ws law few short small weight =
     let most = shares_within law a ws in
     ⊎_elim

@@ -6,14 +6,14 @@ use Rattle.ledger.specs.declared.book.Trader.{Trader}
 use Rattle.rows.specs.declared.point.Particulars.{Particulars}
 use Rattle.rows.specs.declared.point.Point.{Point}
 use Rattle.rows.specs.Limits.{max_traders}
-use Rattle.ledger.specs.Accounts.{no_trader, account_at, metered_at, metered_sum, all_accounts, credited, credited_to, entered, settled, unmetered}
+use Rattle.ledger.specs.Accounts.{no_trader, account_at, metered_at, metered_sum, all_accounts, with_credit, with_shares, with_metered, settled_trader, unmetered_trader}
 use Rattle.rows.specs.Rows.{row_at}
-use Rattle.ledger.specs.Sharing.{Tells}
 use Rattle.ledger.proofs.Places.{by_eqb, set_at}
 use Rattle.ledger.proofs.Traders.{new_at, account_entered, account_unmetered, account_settled, length_credited_to, metered_credited_to, metered_sum_credited_to}
 use Rattle.ledger.proofs.Totals.{total_new, total_entered, total_credited, total_credited_to, total_settled, total_unmetered}
 use Rattle.year.specs.Settlements.{Day, Settlement, joined, day_shared, booked, points_in, trader_of}
 use Rattle.year.specs.Quantities.{entered_by, shares_to, account_of, corrections_in, inflow_of, losses_of, loss_on}
+use Rattle.profiles.specs.Laws.{Tells}
 
 pub record Money (c : List Settlement) (ts : List Trader) (loss : ℕ) (correction : ℤ) : Type 0 where
   pub losses : loss ≡ losses_of c
@@ -46,24 +46,24 @@ money_still c ts us loss correction each all m =
       balance = m.balance ∙ ap (λ (z : ℤ). pos loss +ℤ z +ℤ correction) (sym all);
     }
 
-pub money_entered : (c : List Settlement) (ts : List Trader) (loss : ℕ) (correction : ℤ) (t q : ℕ) → Money c ts loss correction → Money c (entered ts t q) loss correction
+pub money_entered : (c : List Settlement) (ts : List Trader) (loss : ℕ) (correction : ℤ) (t q : ℕ) → Money c ts loss correction → Money c (with_metered ts t q) loss correction
 money_entered c ts loss correction t q m =
-    money_still c ts (entered ts t q) loss correction (account_entered ts t q) (total_entered ts t q) m
+    money_still c ts (with_metered ts t q) loss correction (account_entered ts t q) (total_entered ts t q) m
 
-pub money_ended : (c : List Settlement) (ts : List Trader) (loss : ℕ) (correction : ℤ) → Money c ts loss correction → Money c (map unmetered ts) loss correction
+pub money_ended : (c : List Settlement) (ts : List Trader) (loss : ℕ) (correction : ℤ) → Money c ts loss correction → Money c (map unmetered_trader ts) loss correction
 money_ended c ts loss correction m =
-    money_still c ts (map unmetered ts) loss correction (account_unmetered ts) (total_unmetered ts) m
+    money_still c ts (map unmetered_trader ts) loss correction (account_unmetered ts) (total_unmetered ts) m
 
 -- A day shared out.
 
 -- once the first k shares were credited, a trader has had those of his points
-account_credited_to : (c : List Settlement) (ts : List Trader) (s : List Point) (qs : List ℕ) (n k t : ℕ) → ((i : ℕ) → i < n → (row_at s i).trader < length ts) → ((i : ℕ) → i < n → (row_at s i).trader ≡ trader_of c i) → k ≤ n → account_at (credited_to ts s qs k) t ≡ account_at ts t +ℤ pos (shares_to c qs t k)
-unfolding credited_to shares_to
+account_credited_to : (c : List Settlement) (ts : List Trader) (s : List Point) (qs : List ℕ) (n k t : ℕ) → ((i : ℕ) → i < n → (row_at s i).trader < length ts) → ((i : ℕ) → i < n → (row_at s i).trader ≡ trader_of c i) → k ≤ n → account_at (with_shares ts s qs k) t ≡ account_at ts t +ℤ pos (shares_to c qs t k)
+unfolding with_shares shares_to
 account_credited_to c ts s qs n zero t own is h =
     let r : account_at ts t ≡ account_at ts t +ℤ pos 0 = omega (arith, ints) in
     r
 account_credited_to c ts s qs n (suc k) t own is h =
-    let before = credited_to ts s qs k in
+    let before = with_shares ts s qs k in
     let j = (row_at s k).trader in
     let q = get_or qs k 0 in
     let had = shares_to c qs t k in
@@ -81,27 +81,27 @@ account_credited_to c ts s qs n (suc k) t own is h =
     ∙ ap (λ (i : ℕ). account_at ts t +ℤ pos (had + cond (eqb i t) q 0)) (is k (omega arith))
 
 module _ (c : List Settlement) (d : Day) (tells : Tells) (ts : List Trader) (s : List Point) (qs : List ℕ) (n : ℕ) (count : n ≡ points_in c) (own : (i : ℕ) → i < n → (row_at s i).trader < length ts) where
-  account_shared : ((i : ℕ) → i < n → (row_at s i).trader ≡ trader_of c i) → (t : ℕ) → metered_at ts t ≡ entered_by t d.entries → account_at ts t ≡ account_of c t → account_at (map settled (credited_to ts s qs n)) t ≡ account_of (day_shared d tells qs ∷ c) t
+  account_shared : ((i : ℕ) → i < n → (row_at s i).trader ≡ trader_of c i) → (t : ℕ) → metered_at ts t ≡ entered_by t d.entries → account_at ts t ≡ account_of c t → account_at (map settled_trader (with_shares ts s qs n)) t ≡ account_of (day_shared d tells qs ∷ c) t
   unfolding account_of
   account_shared is t metered old =
-      let credits = credited_to ts s qs n in
+      let credits = with_shares ts s qs n in
       let a = account_settled credits t in
       let b = account_credited_to c ts s qs n n t own is (omega arith) in
       let m : metered_at credits t ≡ entered_by t d.entries = metered_credited_to ts s qs n t ∙ metered in
-      let e : account_at (map settled credits) t ≡ account_of c t +ℤ pos (shares_to c qs t n) +ℤ pos (entered_by t d.entries) = omega (arith, ints) in
+      let e : account_at (map settled_trader credits) t ≡ account_of c t +ℤ pos (shares_to c qs t n) +ℤ pos (entered_by t d.entries) = omega (arith, ints) in
       e ∙ ap (λ (k : ℕ). account_of c t +ℤ pos (shares_to c qs t k) +ℤ pos (entered_by t d.entries)) count
 
   -- what the shares, the metered litres and the loss take up is the inflow
-  balance_shared : (loss x : ℕ) (correction : ℤ) → length qs ≤ n → sum qs + x + metered_sum ts ≡ d.inflow → pos (inflow_of c) ≡ pos loss +ℤ all_accounts ts +ℤ correction → pos (inflow_of c + d.inflow) ≡ pos (loss + x) +ℤ all_accounts (map settled (credited_to ts s qs n)) +ℤ correction
+  balance_shared : (loss x : ℕ) (correction : ℤ) → length qs ≤ n → sum qs + x + metered_sum ts ≡ d.inflow → pos (inflow_of c) ≡ pos loss +ℤ all_accounts ts +ℤ correction → pos (inflow_of c + d.inflow) ≡ pos (loss + x) +ℤ all_accounts (map settled_trader (with_shares ts s qs n)) +ℤ correction
   balance_shared loss x correction short whole old =
-      let credits = credited_to ts s qs n in
+      let credits = with_shares ts s qs n in
       let a = total_settled credits in
       let b = total_credited_to ts s qs n n own (omega arith) in
       let all : sum (take n qs) ≡ sum qs = ap sum (take_all n qs short) in
       let m = metered_sum_credited_to ts s qs n in
       omega (arith, ints)
 
-  pub money_shared : (loss x : ℕ) (correction : ℤ) → ((i : ℕ) → i < n → (row_at s i).trader ≡ trader_of c i) → length qs ≤ n → ((t : ℕ) → metered_at ts t ≡ entered_by t d.entries) → x ≡ loss_on d → sum qs + x + metered_sum ts ≡ d.inflow → Money c ts loss correction → Money (day_shared d tells qs ∷ c) (map settled (credited_to ts s qs n)) (loss + x) correction
+  pub money_shared : (loss x : ℕ) (correction : ℤ) → ((i : ℕ) → i < n → (row_at s i).trader ≡ trader_of c i) → length qs ≤ n → ((t : ℕ) → metered_at ts t ≡ entered_by t d.entries) → x ≡ loss_on d → sum qs + x + metered_sum ts ≡ d.inflow → Money c ts loss correction → Money (day_shared d tells qs ∷ c) (map settled_trader (with_shares ts s qs n)) (loss + x) correction
   unfolding losses_of corrections_in inflow_of
   money_shared loss x correction is short metered lost whole m =
       record {
@@ -114,7 +114,7 @@ module _ (c : List Settlement) (d : Day) (tells : Tells) (ts : List Trader) (s :
 -- A reading booked.
 
 -- the trader whose the point is has the correction, and every other what he had
-account_booked : (c : List Settlement) (ts : List Trader) (k v u j : ℕ) (z : ℤ) → j < length ts → j ≡ trader_of c k → (t : ℕ) → ((i : ℕ) → account_at ts i ≡ account_of c i) → account_at (credited ts j z) t ≡ account_of (booked k v u z ∷ c) t
+account_booked : (c : List Settlement) (ts : List Trader) (k v u j : ℕ) (z : ℤ) → j < length ts → j ≡ trader_of c k → (t : ℕ) → ((i : ℕ) → account_at ts i ≡ account_of c i) → account_at (with_credit ts j z) t ≡ account_of (booked k v u z ∷ c) t
 unfolding account_of
 account_booked c ts k v u j z h is t old =
     set_at (λ (x : Trader). x.account) ts j (record { account = account_at ts j +ℤ z; metered = metered_at ts j }) no_trader t h
@@ -123,7 +123,7 @@ account_booked c ts k v u j z h is t old =
     (λ ne. old t)
     ∙ ap (λ (i : ℕ). cond (eqb i t) (account_of c t +ℤ z) (account_of c t)) is
 
-pub money_booked : (c : List Settlement) (ts : List Trader) (loss : ℕ) (correction : ℤ) (k v u j : ℕ) (z : ℤ) → j < length ts → j ≡ trader_of c k → Money c ts loss correction → Money (booked k v u z ∷ c) (credited ts j z) loss (correction -ℤ z)
+pub money_booked : (c : List Settlement) (ts : List Trader) (loss : ℕ) (correction : ℤ) (k v u j : ℕ) (z : ℤ) → j < length ts → j ≡ trader_of c k → Money c ts loss correction → Money (booked k v u z ∷ c) (with_credit ts j z) loss (correction -ℤ z)
 unfolding losses_of corrections_in inflow_of
 money_booked c ts loss correction k v u j z h is m =
     let all = total_credited ts j z h in
@@ -134,6 +134,6 @@ money_booked c ts loss correction k v u j z h is m =
       accounts = λ t. account_booked c ts k v u j z h is t m.accounts;
       corrections = let r : correction -ℤ z ≡ pos 0 -ℤ (corrections_in c +ℤ z) = omega (arith, ints) in r;
       balance =
-          let r : pos (inflow_of c) ≡ pos loss +ℤ all_accounts (credited ts j z) +ℤ (correction -ℤ z) = omega (arith, ints) in
+          let r : pos (inflow_of c) ≡ pos loss +ℤ all_accounts (with_credit ts j z) +ℤ (correction -ℤ z) = omega (arith, ints) in
           r;
     }

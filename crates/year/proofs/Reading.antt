@@ -4,10 +4,10 @@ use Rattle.std.proofs.lemmas.Bool.{eq-eqb, ne_eqb, cond-true, cond-false}
 use Rattle.ledger.specs.declared.book.Book.{Book}
 use Rattle.rows.specs.declared.point.Point.{Point}
 use Rattle.ledger.specs.declared.slip.Slip.{Slip}
-use Rattle.ledger.specs.Accounts.{credited, Sound}
-use Rattle.ledger.specs.Outcomes.{tested, tested_for}
-use Rattle.rows.specs.Bookings.{slipped, row_correction, booked_row}
-use Rattle.ledger.specs.Readings.{read_fault, reading_at, reading_done, booked_book, book_fault, booked_to, booking, hand_fault, handing_over, withdraw_fault, withdrawal, withdrawal_done}
+use Rattle.ledger.specs.Accounts.{with_credit, IsSound}
+use Rattle.ledger.specs.Outcomes.{call_outcome, token_outcome}
+use Rattle.rows.specs.Bookings.{row_with_slip, kept_correction, booked_row}
+use Rattle.ledger.specs.Readings.{reading_fault, reading_at, accepted_reading, booked_book, booking_fault, accepted_booking, booking, hand_over_fault, hand_over, withdrawal_fault, withdrawal, accepted_withdrawal}
 use Rattle.rows.specs.Rows.{row_at}
 use Rattle.ledger.proofs.AcceptedReadings.{Books, reads, books, hands_over, withdraws}
 use Rattle.ledger.proofs.Grounds.{by_option}
@@ -20,13 +20,13 @@ use Rattle.year.proofs.Money.{money_booked}
 use Rattle.year.proofs.Consumption.{consumed_booked}
 use Rattle.year.proofs.Agreement.{Agrees}
 
-module _ (c : List Settlement) (d : Day) (taken : ℕ → ℕ) (l : Book) (s : List Point) (h : Sound l) (a : Agrees c d taken l s) where
+module _ (c : List Settlement) (d : Day) (taken : ℕ → ℕ) (l : Book) (s : List Point) (h : IsSound l) (a : Agrees c d taken l s) where
   pub read_agrees : (k v : ℕ) → let r = reading_at l s k v in Agrees c d (λ j. cond (is_ok r.answer && eqb k j) v (taken j)) r.book r.rows
   read_agrees k v =
       let slip = l.counts.readings + 1 in
       by_option
-      (λ o. let r = tested o l s (reading_done l s k v) in Agrees c d (λ j. cond (is_ok r.answer && eqb k j) v (taken j)) r.book r.rows)
-      (read_fault l s k v)
+      (λ o. let r = call_outcome o l s (accepted_reading l s k v) in Agrees c d (λ j. cond (is_ok r.answer && eqb k j) v (taken j)) r.book r.rows)
+      (reading_fault l s k v)
       (λ e.
       let f = reads l s k v e in
       record {
@@ -42,7 +42,7 @@ module _ (c : List Settlement) (d : Day) (taken : ℕ → ℕ) (l : Book) (s : L
       (λ w. a)
 
   -- the reading kept at point k booked to the trader whose the point is, and the point then trader t's
-  booked_agrees : (w : Slip) (t : ℕ) → Books l s w → t < l.counts.traders → Agrees (booked w.point (taken w.point) t (row_correction (row_at s w.point)) ∷ c) d taken (booked_book l (row_at s w.point)) (set s w.point (booked_row (row_at s w.point) t))
+  booked_agrees : (w : Slip) (t : ℕ) → Books l s w → t < l.counts.traders → Agrees (booked w.point (taken w.point) t (kept_correction (row_at s w.point)) ∷ c) d taken (booked_book l (row_at s w.point)) (set s w.point (booked_row (row_at s w.point) t))
   booked_agrees w t b own =
       let k = w.point in
       let p = row_at s k in
@@ -53,14 +53,14 @@ module _ (c : List Settlement) (d : Day) (taken : ℕ → ℕ) (l : Book) (s : L
       let places = h.places in
       record {
         today =
-            today_still l.phase l.traders (credited l.traders p.trader (row_correction p)) d
+            today_still l.phase l.traders (with_credit l.traders p.trader (kept_correction p)) d
             (λ u. metered_set l.traders p.trader _ u refl) (metered_sum-set l.traders p.trader _ refl) a.today;
-        sheet = sheet_booked c taken _ _ _ s a.sheet k t (row_correction p) b.there.admitted own some;
+        sheet = sheet_booked c taken _ _ _ s a.sheet k t (kept_correction p) b.there.admitted own some;
         money =
-            money_booked c l.traders l.loss l.correction k (taken k) t p.trader (row_correction p) (omega arith)
+            money_booked c l.traders l.loss l.correction k (taken k) t p.trader (kept_correction p) (omega arith)
             r.agrees.trader a.money;
         fair = a.fair;
-        consumed = consumed_booked c k (taken k) t (row_correction p) (correction_is c k (taken k) p (r.kept some) r.agrees) a.consumed;
+        consumed = consumed_booked c k (taken k) t (kept_correction p) (correction_is c k (taken k) p (r.kept some) r.agrees) a.consumed;
       }
 
   pub book_agrees : (w : Slip) → let r = booking l s w in Agrees (accepted r.answer (booked w.point (taken w.point) (trader_of c w.point) (told_in r.answer) ∷ c) c) d taken r.book r.rows
@@ -68,27 +68,27 @@ module _ (c : List Settlement) (d : Day) (taken : ℕ → ℕ) (l : Book) (s : L
       let k = w.point in
       let p = row_at s k in
       by_option
-      (λ o. let r = tested_for w o l s (booked_to l s w p.trader) in Agrees (accepted r.answer (booked k (taken k) (trader_of c k) (told_in r.answer) ∷ c) c) d taken r.book r.rows)
-      (book_fault l s w)
+      (λ o. let r = token_outcome w o l s (accepted_booking l s w p.trader) in Agrees (accepted r.answer (booked k (taken k) (trader_of c k) (told_in r.answer) ∷ c) c) d taken r.book r.rows)
+      (booking_fault l s w)
       (λ e.
       let b = books l s w e in
       let still = (a.sheet.rows k b.there.admitted).agrees.trader in
-      subst (λ (t : ℕ). Agrees (booked k (taken k) t (row_correction p) ∷ c) d taken (booked_book l p) (set s k (booked_row p p.trader))) still
+      subst (λ (t : ℕ). Agrees (booked k (taken k) t (kept_correction p) ∷ c) d taken (booked_book l p) (set s k (booked_row p p.trader))) still
       (booked_agrees w p.trader b b.owned))
       (λ why. a)
 
-  pub hand_agrees : (w : Slip) (t : ℕ) → let r = handing_over l s w t in Agrees (accepted r.answer (booked w.point (taken w.point) t (told_in r.answer) ∷ c) c) d taken r.book r.rows
+  pub hand_agrees : (w : Slip) (t : ℕ) → let r = hand_over l s w t in Agrees (accepted r.answer (booked w.point (taken w.point) t (told_in r.answer) ∷ c) c) d taken r.book r.rows
   hand_agrees w t =
       by_option
-      (λ o. let r = tested_for w o l s (booked_to l s w t) in Agrees (accepted r.answer (booked w.point (taken w.point) t (told_in r.answer) ∷ c) c) d taken r.book r.rows)
-      (hand_fault l s w t)
+      (λ o. let r = token_outcome w o l s (accepted_booking l s w t) in Agrees (accepted r.answer (booked w.point (taken w.point) t (told_in r.answer) ∷ c) c) d taken r.book r.rows)
+      (hand_over_fault l s w t)
       (λ e. let f = hands_over l s w t e in booked_agrees w t f.books f.trader)
       (λ why. a)
 
   pub withdraw_agrees : (w : Slip) → let r = withdrawal l s w in Agrees c d taken r.book r.rows
   withdraw_agrees w =
       let k = w.point in
-      by_option (λ o. let r = tested_for w o l s (withdrawal_done l s w) in Agrees c d taken r.book r.rows) (withdraw_fault l s w)
+      by_option (λ o. let r = token_outcome w o l s (accepted_withdrawal l s w) in Agrees c d taken r.book r.rows) (withdrawal_fault l s w)
       (λ e.
       record {
         today = a.today;

@@ -4,14 +4,14 @@ use native.Mathlib.Nat.{one-le-pow}
 use Rattle.std.proofs.lemmas.Bool.{lt-ltb, le-ltb, le-leb, eq-eqb, ne_eqb, and_from, cond-true, cond-false, cond_both}
 use Rattle.rows.specs.declared.point.Particulars.{Particulars}
 use Rattle.rows.specs.declared.point.Point.{Point}
-use Rattle.rows.specs.Limits.{max_traders, max_scale, max_open_sum, full_open_sum}
-use Rattle.rows.specs.Bookings.{used, correction_of, new_scale, slipped, row_use, row_correction, booked_row, may_book}
-use Rattle.rows.specs.Rows.{dial_fits, particulars_fit, in_range, may_share, admitted_row, shared_row}
-use Rattle.ledger.specs.Sharing.{Tells}
-use Rattle.rows.proofs.Corrections.{Fitting, fitting, new_scale_small}
+use Rattle.rows.specs.Limits.{max_traders, max_scale_factor, max_open_sum, full_open_sum}
+use Rattle.rows.specs.Bookings.{consumption_to, correction_of, scale_factor_after, row_with_slip, kept_consumption, kept_correction, booked_row, may_book}
+use Rattle.rows.specs.Rows.{dial_fits, particulars_fit, row_fits, may_share, admitted_row, shared_row}
+use Rattle.rows.proofs.Corrections.{ParticularsFit, tested_particulars, scale_factor_after_small}
 use Rattle.year.specs.Settlements.{Day, Settlement, joined, day_shared, booked, points_in, trader_of}
 use Rattle.year.specs.Quantities.{given_for, told_for, shares_since, period_of, reading_of, use_to, scale_of}
 use Rattle.year.specs.Law.{RowAgrees}
+use Rattle.profiles.specs.Laws.{Tells}
 
 -- Settlements that give for a point what those before gave.
 
@@ -110,7 +110,7 @@ agrees_shared c d tells qs k y p h f a =
 
 -- A reading taken or withdrawn.
 
-pub agrees_slipped : (c : List Settlement) (k : ℕ) (p : Point) (slip v : ℕ) → RowAgrees c k p → RowAgrees c k (slipped p slip v)
+pub agrees_slipped : (c : List Settlement) (k : ℕ) (p : Point) (slip v : ℕ) → RowAgrees c k p → RowAgrees c k (row_with_slip p slip v)
 agrees_slipped c k p slip v a =
     record {
       trader = a.trader;
@@ -126,19 +126,19 @@ agrees_slipped c k p slip v a =
 -- A reading booked.
 
 module _ (c : List Settlement) (k v : ℕ) (p : Point) (kept : p.kept_reading ≡ v) (a : RowAgrees c k p) where
-  use_is : row_use p ≡ use_to c k v
-  use_is = λ i. used (a.digits i) (a.litres i) (a.reading i) (kept i)
+  use_is : kept_consumption p ≡ use_to c k v
+  use_is = λ i. consumption_to (a.digits i) (a.litres i) (a.reading i) (kept i)
 
   -- what a booking moves, from the settlements alone
-  pub correction_is : row_correction p ≡ correction_of (use_to c k v) (shares_since c k)
+  pub correction_is : kept_correction p ≡ correction_of (use_to c k v) (shares_since c k)
   correction_is = λ i. correction_of (use_is i) (a.shares i)
 
   pub agrees_booked : (t : ℕ) (z : ℤ) → RowAgrees (booked k v t z ∷ c) k (booked_row p t)
   unfolding given_for reading_of scale_of shares_since period_of
   agrees_booked t z =
       let e : eqb k k ≡ true = eq-eqb k k refl in
-      let scale : new_scale p.scale_factor (row_use p) p.period_sum ≡ new_scale (scale_of c k) (use_to c k v) (period_of c k) =
-      λ i. new_scale (a.scale i) (use_is i) (a.period i)
+      let scale : scale_factor_after p.scale_factor (kept_consumption p) p.period_sum ≡ scale_factor_after (scale_of c k) (use_to c k v) (period_of c k) =
+      λ i. scale_factor_after (a.scale i) (use_is i) (a.period i)
       in
       record {
         trader = sym (cond-true _ _ _ e);
@@ -171,16 +171,16 @@ pub fits_new : (g : Particulars) (days : ℕ) → is_fit (admitted_row g) ≡ tr
 fits_new g days f =
     record { particulars = f; kept = dial_nought g.digits; shares = omega arith; period = omega arith }
 
-pub fits_slipped : (days : ℕ) (p : Point) (slip v : ℕ) → dial_fits p.digits v ≡ true → RowFits days p → RowFits days (slipped p slip v)
+pub fits_slipped : (days : ℕ) (p : Point) (slip v : ℕ) → dial_fits p.digits v ≡ true → RowFits days p → RowFits days (row_with_slip p slip v)
 fits_slipped days p slip v dial f =
     record { particulars = f.particulars; kept = dial; shares = f.shares; period = f.period }
 
 -- what the test of a row's particulars says
-pub row_fitting : (p : Point) → is_fit p ≡ true → Fitting p.segment p.digits p.litres_per_unit p.reading p.scale_factor
-row_fitting p e = fitting p.segment p.digits p.litres_per_unit p.reading p.scale_factor e
+pub row_fitting : (p : Point) → is_fit p ≡ true → ParticularsFit p.segment p.digits p.litres_per_unit p.reading p.scale_factor
+row_fitting p e = tested_particulars p.segment p.digits p.litres_per_unit p.reading p.scale_factor e
 
 -- with the kept reading in the place of the last one, and another scale factor within its limit
-particulars_booked : (days : ℕ) (p : Point) (x : ℕ) → RowFits days p → x ≤ max_scale → particulars_fit p.segment p.digits p.litres_per_unit p.kept_reading x ≡ true
+particulars_booked : (days : ℕ) (p : Point) (x : ℕ) → RowFits days p → x ≤ max_scale_factor → particulars_fit p.segment p.digits p.litres_per_unit p.kept_reading x ≡ true
 particulars_booked days p x f small =
     let q = row_fitting p f.particulars in
     and_from (ltb p.segment 8) _ (lt-ltb _ _ q.segments)
@@ -193,15 +193,15 @@ particulars_booked days p x f small =
 pub fits_booked : (days : ℕ) (p : Point) (t : ℕ) → RowFits days p → RowFits days (booked_row p t)
 fits_booked days p t f =
     let most = (row_fitting p f.particulars).scale_most in
-    let scale = new_scale p.scale_factor (row_use p) p.period_sum in
+    let scale = scale_factor_after p.scale_factor (kept_consumption p) p.period_sum in
     record {
-      particulars = particulars_booked days p scale f (new_scale_small p.scale_factor (row_use p) p.period_sum most);
+      particulars = particulars_booked days p scale f (scale_factor_after_small p.scale_factor (kept_consumption p) p.period_sum most);
       kept = dial_nought p.digits;
       shares = omega arith;
       period = omega arith;
     }
 
-row_ranges : (m days : ℕ) (p : Point) → m ≤ max_traders → p.trader < m → days ≤ 4000 → RowFits days p → in_range p ≡ true
+row_ranges : (m days : ℕ) (p : Point) → m ≤ max_traders → p.trader < m → days ≤ 4000 → RowFits days p → row_fits p ≡ true
 row_ranges m days p few own most f =
     let a = f.shares in
     let b = f.period in
@@ -211,12 +211,12 @@ row_ranges m days p few own most f =
     (and_from (leb p.open_sum max_open_sum) _ (le-leb _ _ (omega arith)) (le-leb _ _ (omega arith)))))
 
 pub row_books : (m days : ℕ) (p : Point) → m ≤ max_traders → p.trader < m → days ≤ 4000 → RowFits days p → may_book m p ≡ true
-row_books m days p few own most f = and_from (in_range p) _ (row_ranges m days p few own most f) (lt-ltb _ _ own)
+row_books m days p few own most f = and_from (row_fits p) _ (row_ranges m days p few own most f) (lt-ltb _ _ own)
 
 pub row_shares : (m days : ℕ) (p : Point) → m ≤ max_traders → p.trader < m → days + 1 ≤ 4000 → RowFits days p → may_share m p ≡ true
 row_shares m days p few own most f =
     let a = f.shares in
     let b = f.period in
-    and_from (in_range p) _ (row_ranges m days p few own (omega arith) f)
+    and_from (row_fits p) _ (row_ranges m days p few own (omega arith) f)
     (and_from (ltb p.trader m) _ (lt-ltb _ _ own)
     (and_from (leb p.open_sum full_open_sum) _ (le-leb _ _ (omega arith)) (le-leb _ _ (omega arith))))

@@ -6,12 +6,10 @@ use Rattle.shares.specs.Fair.{max_weight}
 use Rattle.ledger.specs.declared.book.Book.{Book}
 use Rattle.ledger.specs.declared.day.MeasuredDay.{MeasuredDay}
 use Rattle.rows.specs.declared.point.Point.{Point}
-use Rattle.ledger.specs.Accounts.{Sound}
-use Rattle.ledger.specs.Days.{sky_in}
-use Rattle.ledger.specs.Grounds.{handed_back, unless}
-use Rattle.ledger.specs.History.{LawfulProfile, LawfulRule}
+use Rattle.ledger.specs.Accounts.{IsSound}
+use Rattle.ledger.specs.Grounds.{token_answer, unless}
 use Rattle.rows.specs.Rows.{row_at, shared_rows}
-use Rattle.ledger.specs.Sharing.{Tells, Rule, told_on, day_quantity, day_loss, day_uses, day_shares, no_weight, share_fault, share_told, share_answer, shared_book, share_book, share_sheet, share_shares}
+use Rattle.ledger.specs.Sharing.{factors_on, day_quantity, day_loss, day_consumptions, day_shares, has_no_weight, share_out_fault, share_out_figures, share_answer, shared_book, share_book, share_sheet, share_shares}
 use Rattle.ledger.proofs.Accepted.{shares_out}
 use Rattle.ledger.proofs.Grounds.{by_option}
 use Rattle.ledger.proofs.Traders.{get_or_le_sum}
@@ -23,14 +21,17 @@ use Rattle.year.proofs.Consumption.{consumed_shared}
 use Rattle.year.proofs.Money.{money_shared}
 use Rattle.year.proofs.Fairness.{weights, uses_are, weight_small, weights_small, fair_day, whole_shared}
 use Rattle.year.proofs.Agreement.{Agrees}
+use Rattle.ledger.specs.Tokens.{weather_of}
+use Rattle.profiles.specs.Laws.{TellsFactors, Tells}
+use Rattle.shares.specs.Laws.{IsShareRule, Rule}
 
-module _ (c : List Settlement) (d : Day) (taken : ℕ → ℕ) (l : Book) (s : List Point) (tells : Tells) (rule : Rule) (profile : LawfulProfile tells) (law : LawfulRule rule) (h : Sound l) (a : Agrees c d taken l s) where
+module _ (c : List Settlement) (d : Day) (taken : ℕ → ℕ) (l : Book) (s : List Point) (tells : Tells) (rule : Rule) (profile : TellsFactors tells) (law : IsShareRule rule) (h : IsSound l) (a : Agrees c d taken l s) where
   -- one share for each point
   shares_count : length (day_shares l s tells rule) ≡ l.counts.points
   shares_count =
       let n = l.counts.points in
       let room = a.sheet.room in
-      law.places (day_quantity l.phase) (day_uses l s tells)
+      law.places (day_quantity l.phase) (day_consumptions l s tells)
       ∙ length-map (take n s) _
       ∙ length-take n s
       ∙ (let m : min n (length s) ≡ n = omega arith in m)
@@ -39,20 +40,20 @@ module _ (c : List Settlement) (d : Day) (taken : ℕ → ℕ) (l : Book) (s : L
   weight_limit k q = let r = a.sheet.rows k q in weight_small c d tells k (row_at s k) profile r.agrees r.fits.particulars
 
   -- the profile is asked at the day's own temperature and season
-  told_is : Running l.phase l.traders d → (k : ℕ) → told_on l.phase tells k ≡ tells k d.temperature d.season
+  told_is : Running l.phase l.traders d → (k : ℕ) → factors_on l.phase tells k ≡ tells k d.temperature d.season
   told_is run k =
-      ap (λ (t : ℤ). tells k t (sky_in l.phase).season) run.temperature
+      ap (λ (t : ℤ). tells k t (weather_of l.phase).season) run.temperature
       ∙ ap (λ (n : ℕ). tells k d.temperature n) run.season
 
   -- the rows' profile consumptions are the points' weights
-  uses_is : Running l.phase l.traders d → day_uses l s tells ≡ weights c d tells l.counts.points
+  uses_is : Running l.phase l.traders d → day_consumptions l s tells ≡ weights c d tells l.counts.points
   uses_is run =
-      uses_are c d tells (told_on l.phase tells) l.counts.points s a.sheet.room (told_is run) (λ k q. (a.sheet.rows k q).agrees)
+      uses_are c d tells (factors_on l.phase tells) l.counts.points s a.sheet.room (told_is run) (λ k q. (a.sheet.rows k q).agrees)
 
-  shares_whole : Running l.phase l.traders d → no_weight l s tells ≡ false → sum (day_shares l s tells rule) ≡ day_quantity l.phase
+  shares_whole : Running l.phase l.traders d → has_no_weight l s tells ≡ false → sum (day_shares l s tells rule) ≡ day_quantity l.phase
   shares_whole run weight =
       let n = l.counts.points in
-      let ws = day_uses l s tells in
+      let ws = day_consumptions l s tells in
       let len : length ws ≡ n = sym (law.places (day_quantity l.phase) ws) ∙ shares_count in
       let few = h.points in
       let small : All (λ w. w ≤ max_weight) ws =
@@ -60,7 +61,7 @@ module _ (c : List Settlement) (d : Day) (taken : ℕ → ℕ) (l : Book) (s : L
       in
       whole_shared rule (day_quantity l.phase) ws law run.small (omega arith) small weight
 
-  shared_agrees : Running l.phase l.traders d → no_weight l s tells ≡ false → Agrees (day_shared d tells (day_shares l s tells rule) ∷ c) d taken (shared_book l s (day_shares l s tells rule)) (shared_rows (told_on l.phase tells) s (day_shares l s tells rule) l.counts.points)
+  shared_agrees : Running l.phase l.traders d → has_no_weight l s tells ≡ false → Agrees (day_shared d tells (day_shares l s tells rule) ∷ c) d taken (shared_book l s (day_shares l s tells rule)) (shared_rows (factors_on l.phase tells) s (day_shares l s tells rule) l.counts.points)
   shared_agrees run weight =
       let qs = day_shares l s tells rule in
       let n = l.counts.points in
@@ -75,15 +76,15 @@ module _ (c : List Settlement) (d : Day) (taken : ℕ → ℕ) (l : Book) (s : L
       let whole = shares_whole run weight in
       let inflow = run.whole in
       let is : qs ≡ rule (quantity_on d) (weights c d tells (points_in c)) =
-      ap (λ (x : ℕ). rule x (day_uses l s tells)) quantity
+      ap (λ (x : ℕ). rule x (day_consumptions l s tells)) quantity
       ∙ ap (rule (quantity_on d)) (uses_is run ∙ ap (weights c d tells) count)
       in
       record {
         today = tt;
         sheet =
-            sheet_shared c taken n l.counts.traders l.counts.shared s a.sheet d tells qs (told_on l.phase tells) len
+            sheet_shared c taken n l.counts.traders l.counts.shared s a.sheet d tells qs (factors_on l.phase tells) len
             (λ k. let most = get_or_le_sum qs k in omega arith)
-            (λ k. (profile k (sky_in l.phase).temperature (sky_in l.phase).season).0)
+            (λ k. (profile k (weather_of l.phase).temperature (weather_of l.phase).season).0)
             (told_is run);
         money =
             money_shared c d tells ts s qs n count (λ i q. let own = (a.sheet.rows i q).owned in omega arith) l.loss
@@ -100,10 +101,10 @@ module _ (c : List Settlement) (d : Day) (taken : ℕ → ℕ) (l : Book) (s : L
   share_agrees day segments uses shares ss =
       let qs = day_shares l s tells rule in
       let n = l.counts.points in
-      let after = shared_rows (told_on l.phase tells) s qs n in
+      let after = shared_rows (factors_on l.phase tells) s qs n in
       by_option
-      (λ o. ss ≡ unless o (qs ++ drop n shares) shares → Agrees (accepted (handed_back o day (share_told l s tells)) (day_shared d tells (take (points_in c) ss) ∷ c) c) d taken (unless o (shared_book l s qs) l) (unless o after s))
-      (share_fault l day s tells segments uses (length shares))
+      (λ o. ss ≡ unless o (qs ++ drop n shares) shares → Agrees (accepted (token_answer o day (share_out_figures l s tells)) (day_shared d tells (take (points_in c) ss) ∷ c) c) d taken (unless o (shared_book l s qs) l) (unless o after s))
+      (share_out_fault l day s tells segments uses (length shares))
       (λ e given.
       let o = shares_out l day s tells segments uses (length shares) e in
       let run = running l.phase day.number l.next_day l.traders d o.0.running h.day a.today in

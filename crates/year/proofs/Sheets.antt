@@ -6,14 +6,15 @@ use Rattle.profiles.specs.declared.factors.Factors.{Factors}
 use Rattle.rows.specs.declared.point.Particulars.{Particulars}
 use Rattle.rows.specs.declared.point.Point.{Point}
 use Rattle.rows.specs.Limits.{max_traders}
-use Rattle.rows.specs.Bookings.{slipped, booked_row, may_book}
-use Rattle.rows.specs.Rows.{row_at, no_row, dial_fits, may_share, every, admitted_row, shared_rows}
-use Rattle.ledger.specs.Sharing.{Tells}
-use Rattle.rows.proofs.Rows.{every_from, length_shared_rows, row_shared_rows}
+use Rattle.rows.specs.Bookings.{row_with_slip, booked_row, may_book}
+use Rattle.rows.specs.Rows.{row_at, no_row, dial_fits, may_share, admitted_row, shared_rows}
+use Rattle.rows.proofs.Rows.{all_of_rows, length_shared_rows, row_shared_rows}
 use Rattle.year.specs.Settlements.{Day, Settlement, joined, day_shared, booked, points_in}
 use Rattle.year.specs.Quantities.{told_for, shares_since}
 use Rattle.year.specs.Law.{RowAgrees}
 use Rattle.year.proofs.Rows.{Same, same_older, same_other, agrees_still, agrees_joined, agrees_shared, agrees_slipped, agrees_booked, RowFits, is_fit, fits_new, fits_slipped, fits_booked, row_books, row_shares}
+use Rattle.std.specs.List.{list_all}
+use Rattle.profiles.specs.Laws.{Tells}
 
 -- taken: the reading taken last at the point
 pub record RowHolds (c : List Settlement) (taken traders days k : ℕ) (p : Point) : Type 0 where
@@ -98,11 +99,11 @@ module _ (c : List Settlement) (taken : ℕ → ℕ) (n m days : ℕ) (s : List 
 
   -- A reading taken or withdrawn at point k: taken' are then the readings taken last.
 
-  pub sheet_slipped : (taken' : ℕ → ℕ) (k slip v : ℕ) → k < n → dial_fits (row_at s k).digits v ≡ true → (slip ≢ 0 → v ≡ taken' k) → ((j : ℕ) → j ≢ k → taken j ≡ taken' j) → Sheet c taken' n m days (set s k (slipped (row_at s k) slip v))
+  pub sheet_slipped : (taken' : ℕ → ℕ) (k slip v : ℕ) → k < n → dial_fits (row_at s k).digits v ≡ true → (slip ≢ 0 → v ≡ taken' k) → ((j : ℕ) → j ≢ k → taken j ≡ taken' j) → Sheet c taken' n m days (set s k (row_with_slip (row_at s k) slip v))
   sheet_slipped taken' k slip v there dial now others =
       let p = row_at s k in
       let r = h.rows k there in
-      let x = slipped p slip v in
+      let x = row_with_slip p slip v in
       let len = length-set s k x in
       let room = h.room in
       record {
@@ -177,10 +178,10 @@ module _ (c : List Settlement) (taken : ℕ → ℕ) (n m days : ℕ) (s : List 
 
   -- The sheet is the ledger's own.
 
-  pub sheet_own : m ≤ max_traders → days ≤ 4000 → every (may_book m) s n ≡ true
+  pub sheet_own : m ≤ max_traders → days ≤ 4000 → list_all (may_book m) s n ≡ true
   sheet_own few most =
-      every_from (may_book m) s n (λ k q. let r = h.rows k q in row_books m days (row_at s k) few r.owned most r.fits)
+      all_of_rows (may_book m) s n (λ k q. let r = h.rows k q in row_books m days (row_at s k) few r.owned most r.fits)
 
-  pub sheet_ready : m ≤ max_traders → days + 1 ≤ 4000 → every (may_share m) s n ≡ true
+  pub sheet_ready : m ≤ max_traders → days + 1 ≤ 4000 → list_all (may_share m) s n ≡ true
   sheet_ready few most =
-      every_from (may_share m) s n (λ k q. let r = h.rows k q in row_shares m days (row_at s k) few r.owned most r.fits)
+      all_of_rows (may_share m) s n (λ k q. let r = h.rows k q in row_shares m days (row_at s k) few r.owned most r.fits)

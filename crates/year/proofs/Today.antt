@@ -6,12 +6,13 @@ use Rattle.ledger.specs.declared.day.Phase.{Phase}
 use Rattle.ledger.specs.declared.day.Phase.TheVariants.{Idle, Open, Measured}
 use Rattle.profiles.specs.declared.weather.Weather.{Weather as Sky}
 use Rattle.ledger.specs.Limits.{max_litres}
-use Rattle.ledger.specs.Accounts.{metered_at, metered_sum, entered, day_holds}
-use Rattle.ledger.specs.Days.{is_idle, is_open, is_measured, sky_of, sky_in, loss_of, quantity_of}
+use Rattle.ledger.specs.Accounts.{metered_at, metered_sum, with_metered, day_adds_up}
+use Rattle.ledger.specs.Days.{sky_of, loss_of, quantity_of}
 use Rattle.ledger.specs.Sharing.{day_quantity, day_loss}
 use Rattle.ledger.proofs.Traders.{metered_le, metered_entered, metered_sum-entered}
 use Rattle.year.specs.Settlements.{Day, opening, with_entry, with_inflow}
 use Rattle.year.specs.Quantities.{entered_by, entered_in, loss_on, quantity_on}
+use Rattle.ledger.specs.Tokens.{is_idle, is_open, is_measured, weather_of}
 
 -- what the opening took and what was entered since
 pub record Begun (w : Sky) (ts : List Trader) (d : Day) : Type 0 where
@@ -40,12 +41,12 @@ Today Idle ts d = Unit {0}
 Today (Open n w) ts d = Begun w ts d
 Today (Measured n w g x q) ts d = Begun w ts d × Figures g x q d
 
-idle_none : (ph : Phase) (m next : ℕ) → is_idle ph ≡ true → day_holds ph m next ≡ true → m ≡ 0
+idle_none : (ph : Phase) (m next : ℕ) → is_idle ph ≡ true → day_adds_up ph m next ≡ true → m ≡ 0
 idle_none Idle m next e h = eqb-true m 0 h
 idle_none (Open n w) m next e h = absurd (false≢true e)
 idle_none (Measured n w g x q) m next e h = absurd (false≢true e)
 
-pub today_opened : (ph : Phase) (ts : List Trader) (next n : ℕ) (t : ℤ) (season : ℕ) → is_idle ph ≡ true → day_holds ph (metered_sum ts) next ≡ true → Today (Open n (sky_of t season)) ts (opening t season)
+pub today_opened : (ph : Phase) (ts : List Trader) (next n : ℕ) (t : ℤ) (season : ℕ) → is_idle ph ≡ true → day_adds_up ph (metered_sum ts) next ≡ true → Today (Open n (sky_of t season)) ts (opening t season)
 unfolding entered_by entered_in
 today_opened ph ts next n t season i h =
     let none = idle_none ph (metered_sum ts) next i h in
@@ -56,7 +57,7 @@ today_opened ph ts next n t season i h =
       all = none;
     }
 
-pub today_entered : (ph : Phase) (k : ℕ) (ts : List Trader) (d : Day) (t q : ℕ) → is_open ph k ≡ true → t < length ts → Today ph ts d → Today ph (entered ts t q) (with_entry d t q)
+pub today_entered : (ph : Phase) (k : ℕ) (ts : List Trader) (d : Day) (t q : ℕ) → is_open ph k ≡ true → t < length ts → Today ph ts d → Today ph (with_metered ts t q) (with_entry d t q)
 unfolding entered_by entered_in
 today_entered Idle k ts d t q e h o = absurd (false≢true e)
 today_entered (Open n w) k ts d t q e h o =
@@ -68,7 +69,7 @@ today_entered (Open n w) k ts d t q e h o =
     }
 today_entered (Measured n w g x r) k ts d t q e h o = absurd (false≢true e)
 
-pub today_measured : (ph : Phase) (k : ℕ) (ts : List Trader) (d : Day) (n g r : ℕ) → is_open ph k ≡ true → Today ph ts d → Today (Measured n (sky_in ph) g (loss_of g r) (quantity_of g r (metered_sum ts))) ts (with_inflow d g r)
+pub today_measured : (ph : Phase) (k : ℕ) (ts : List Trader) (d : Day) (n g r : ℕ) → is_open ph k ≡ true → Today ph ts d → Today (Measured n (weather_of ph) g (loss_of g r) (quantity_of g r (metered_sum ts))) ts (with_inflow d g r)
 today_measured Idle k ts d n g r e o = absurd (false≢true e)
 today_measured (Open m w) k ts d n g r e o = (
   record { temperature = o.temperature; season = o.season; each = o.each; all = o.all },
@@ -84,15 +85,15 @@ today_still (Measured n w g x q) ts us d each all o = (begun_still w ts us d eac
 
 -- what a share-out takes from the running day
 pub record Running (ph : Phase) (ts : List Trader) (d : Day) : Type 0 where
-  pub temperature : (sky_in ph).temperature ≡ d.temperature
-  pub season : (sky_in ph).season ≡ d.season
+  pub temperature : (weather_of ph).temperature ≡ d.temperature
+  pub season : (weather_of ph).season ≡ d.season
   pub each : (t : ℕ) → metered_at ts t ≡ entered_by t d.entries
   pub loss : day_loss ph ≡ loss_on d
   pub quantity : day_quantity ph ≡ quantity_on d
   pub whole : day_quantity ph + day_loss ph + metered_sum ts ≡ d.inflow
   pub small : day_quantity ph ≤ max_litres
 
-pub running : (ph : Phase) (k next : ℕ) (ts : List Trader) (d : Day) → is_measured ph k ≡ true → day_holds ph (metered_sum ts) next ≡ true → Today ph ts d → Running ph ts d
+pub running : (ph : Phase) (k next : ℕ) (ts : List Trader) (d : Day) → is_measured ph k ≡ true → day_adds_up ph (metered_sum ts) next ≡ true → Today ph ts d → Running ph ts d
 running Idle k next ts d e h o = absurd (false≢true e)
 running (Open n w) k next ts d e h o = absurd (false≢true e)
 running (Measured n w g x q) k next ts d e h o =

@@ -5,9 +5,8 @@ use Rattle.ledger.specs.declared.book.Book.{Book}
 use Rattle.ledger.specs.declared.day.Phase.{Phase}
 use Rattle.ledger.specs.declared.day.Phase.TheVariants.{Idle, Open, Measured}
 use Rattle.rows.specs.declared.point.Point.{Point}
-use Rattle.ledger.specs.Accounts.{Sound, pending}
-use Rattle.ledger.specs.Days.{is_idle}
-use Rattle.ledger.specs.History.{History, Event, TraderAdmitted, PointAdmitted, Opened, Entered, InflowTaken, Shared, OpenAbandoned, MeasuredAbandoned, PointRead, Booked, HandedOver, Withdrawn, Makes, Leads, start, next}
+use Rattle.ledger.specs.Accounts.{IsSound, running_days}
+use Rattle.ledger.specs.History.{History, Event, TraderAdmitted, PointAdmitted, Opened, Entered, InflowTaken, Shared, OpenAbandoned, MeasuredAbandoned, PointRead, Booked, HandedOver, Withdrawn, Step, IsHistoryOf, start, next}
 use Rattle.ledger.specs.Outcomes.{Outcome, Became}
 use Rattle.ledger.proofs.Keep.{new_sound, admit_sound, point_sound, open_sound, enter_sound, inflow_sound, share_sound, abandon_open_sound, abandon_measured_sound}
 use Rattle.ledger.proofs.KeepReadings.{read_sound, book_sound, hand_sound, withdraw_sound}
@@ -17,25 +16,26 @@ use Rattle.year.proofs.Sheets.{sheet_own, sheet_ready}
 use Rattle.year.proofs.Agreement.{Agrees, new_agrees, admit_agrees, point_agrees, open_agrees, enter_agrees, inflow_agrees, abandon_open_agrees, abandon_measured_agrees}
 use Rattle.year.proofs.Reading.{read_agrees, book_agrees, hand_agrees, withdraw_agrees}
 use Rattle.year.proofs.Sharing.{share_agrees}
+use Rattle.ledger.specs.Tokens.{is_idle}
 
 -- Soundness.
 
-sound_step : (e : Event) (l l' : Book) (s s' : List Point) → Sound l → Makes e l s l' s' → Sound l'
-sound_step (TraderAdmitted r) l l' s s' h m = subst Sound (sym m.state) (admit_sound l h)
-sound_step (PointAdmitted g r) l l' s s' h m = subst Sound (sym m.state) (point_sound l s g h)
-sound_step (Opened t n r) l l' s s' h m = subst Sound (sym m.state) (open_sound l t n h)
-sound_step (Entered d t q r) l l' s s' h m = subst Sound (sym m.state) (enter_sound l d t q h)
-sound_step (InflowTaken d g x r) l l' s s' h m = subst Sound (sym m.state) (inflow_sound l d g x h)
+sound_step : (e : Event) (l l' : Book) (s s' : List Point) → IsSound l → Step e l s l' s' → IsSound l'
+sound_step (TraderAdmitted r) l l' s s' h m = subst IsSound (sym m.state) (admit_sound l h)
+sound_step (PointAdmitted g r) l l' s s' h m = subst IsSound (sym m.state) (point_sound l s g h)
+sound_step (Opened t n r) l l' s s' h m = subst IsSound (sym m.state) (open_sound l t n h)
+sound_step (Entered d t q r) l l' s s' h m = subst IsSound (sym m.state) (enter_sound l d t q h)
+sound_step (InflowTaken d g x r) l l' s s' h m = subst IsSound (sym m.state) (inflow_sound l d g x h)
 sound_step (Shared d m r us ss) l l' s s' h p =
-    subst Sound (sym p.state) (share_sound l d s m.tells m.rule m.segments (length m.uses) (length m.shares) p.rule h)
-sound_step (OpenAbandoned d r) l l' s s' h m = subst Sound (sym m.state) (abandon_open_sound l d h)
-sound_step (MeasuredAbandoned d r) l l' s s' h m = subst Sound (sym m.state) (abandon_measured_sound l d h)
-sound_step (PointRead k v r) l l' s s' h m = subst Sound (sym m.state) (read_sound l s k v h)
-sound_step (Booked w r) l l' s s' h m = subst Sound (sym m.state) (book_sound l s w h)
-sound_step (HandedOver w t r) l l' s s' h m = subst Sound (sym m.state) (hand_sound l s w t h)
-sound_step (Withdrawn w r) l l' s s' h m = subst Sound (sym m.state) (withdraw_sound l s w h)
+    subst IsSound (sym p.state) (share_sound l d s m.tells m.rule m.segments (length m.uses) (length m.shares) p.rule h)
+sound_step (OpenAbandoned d r) l l' s s' h m = subst IsSound (sym m.state) (abandon_open_sound l d h)
+sound_step (MeasuredAbandoned d r) l l' s s' h m = subst IsSound (sym m.state) (abandon_measured_sound l d h)
+sound_step (PointRead k v r) l l' s s' h m = subst IsSound (sym m.state) (read_sound l s k v h)
+sound_step (Booked w r) l l' s s' h m = subst IsSound (sym m.state) (book_sound l s w h)
+sound_step (HandedOver w t r) l l' s s' h m = subst IsSound (sym m.state) (hand_sound l s w t h)
+sound_step (Withdrawn w r) l l' s s' h m = subst IsSound (sym m.state) (withdraw_sound l s w h)
 
-pub sound_run : (h : History) (l : Book) (s : List Point) → Leads h l s → Sound l
+pub sound_run : (h : History) (l : Book) (s : List Point) → IsHistoryOf h l s → IsSound l
 sound_run h l s (start first u) = new_sound first
 sound_run h l s (next {h = h₀} {e = e} {l = l₀} {s = s₀} p m) = sound_step e l₀ l s₀ s (sound_run h₀ l₀ s₀ p) m
 
@@ -50,7 +50,7 @@ stepped : {R : Type 0} (P : R → Book → List Point → Type 0) {o : Outcome R
 stepped P {o} {r} {l} {s} m a =
     subst (λ v. P v l s) (sym m.answer) (subst (λ b. P o.answer b s) (sym m.state) (subst (P o.answer o.book) (sym m.rows) a))
 
-agrees_step : (e : Event) (h : History) (l l' : Book) (s s' : List Point) → Sound l → Agree h l s → Makes e l s l' s' → Agree (e ∷ h) l' s'
+agrees_step : (e : Event) (h : History) (l l' : Book) (s s' : List Point) → IsSound l → Agree h l s → Step e l s l' s' → Agree (e ∷ h) l' s'
 agrees_step (TraderAdmitted r) h l l' s s' so a m = stepped (λ v. Agree (TraderAdmitted v ∷ h)) m (admit_agrees _ _ _ l s so a)
 agrees_step (PointAdmitted g r) h l l' s s' so a m = stepped (λ v. Agree (PointAdmitted g v ∷ h)) m (point_agrees _ _ _ l s so a g)
 agrees_step (Opened t n r) h l l' s s' so a m = stepped (λ v. Agree (Opened t n v ∷ h)) m (open_agrees _ _ _ l s so a t n)
@@ -67,19 +67,19 @@ agrees_step (Booked w r) h l l' s s' so a m = stepped (λ v. Agree (Booked w v �
 agrees_step (HandedOver w t r) h l l' s s' so a m = stepped (λ v. Agree (HandedOver w t v ∷ h)) m (hand_agrees _ _ _ l s so a w t)
 agrees_step (Withdrawn w r) h l l' s s' so a m = stepped (λ v. Agree (Withdrawn w v ∷ h)) m (withdraw_agrees _ _ _ l s so a w)
 
-pub agrees_run : (h : History) (l : Book) (s : List Point) → Leads h l s → Agree h l s
+pub agrees_run : (h : History) (l : Book) (s : List Point) → IsHistoryOf h l s → Agree h l s
 agrees_run h l s (start first u) = new_agrees first u
 agrees_run h l s (next {h = h₀} {e = e} {l = l₀} {s = s₀} p m) =
     agrees_step e h₀ l₀ l s₀ s (sound_run h₀ l₀ s₀ p) (agrees_run h₀ l₀ s₀ p) m
 
 -- The law.
 
-busy : (ph : Phase) → is_idle ph ≡ false → pending ph ≡ 1
+busy : (ph : Phase) → is_idle ph ≡ false → running_days ph ≡ 1
 busy Idle e = absurd (true≢false e)
 busy (Open n w) e = refl
 busy (Measured n w g x q) e = refl
 
-pub year_law : (h : History) (l : Book) (s : List Point) → Leads h l s → YearLaw (settlements h) l s
+pub year_law : (h : History) (l : Book) (s : List Point) → IsHistoryOf h l s → YearLaw (settlements h) l s
 year_law h l s p =
     let so = sound_run h l s p in
     let a = agrees_run h l s p in

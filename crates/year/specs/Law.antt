@@ -5,12 +5,13 @@ use Rattle.shares.specs.Fair.{Near}
 use Rattle.ledger.specs.declared.book.Book.{Book}
 use Rattle.rows.specs.declared.point.Point.{Point}
 use Rattle.ledger.specs.Accounts.{account_at, all_accounts}
-use Rattle.ledger.specs.Days.{is_idle}
 use Rattle.rows.specs.Bookings.{may_book}
-use Rattle.rows.specs.Rows.{row_at, every, may_share}
-use Rattle.ledger.specs.Sharing.{Tells}
+use Rattle.rows.specs.Rows.{row_at, may_share}
 use Rattle.year.specs.Settlements.{Day, Settlement, joined, day_shared, booked, points_in, trader_of}
 use Rattle.year.specs.Quantities.{quantity_on, given_for, reading_of, scale_of, shares_of, shares_since, period_of, consumption_of, corrections_of, weight_of, weight_sum, account_of, corrections_in, inflow_of, losses_of}
+use Rattle.ledger.specs.Tokens.{is_idle}
+use Rattle.std.specs.List.{list_all}
+use Rattle.profiles.specs.Laws.{Tells}
 
 -- a share x of a litres at weight w of s in all is less than a litre from its exact proportion, and nought where nobody has weight
 pub record Proportional (a s w x : ℕ) : Type 0 where
@@ -58,5 +59,5 @@ pub record YearLaw (c : List Settlement) (l : Book) (s : List Point) : Type 0 wh
   pub rows : (k : ℕ) → k < points_in c → RowAgrees c k (row_at s k)
   -- its own sheet is never refused as another's: each row is in its ranges and of an admitted trader, and a running day can be
   -- shared out to all
-  pub own : every (may_book l.counts.traders) s l.counts.points ≡ true
-  pub ready : is_idle l.phase ≡ false → every (may_share l.counts.traders) s l.counts.points ≡ true
+  pub own : list_all (may_book l.counts.traders) s l.counts.points ≡ true
+  pub ready : is_idle l.phase ≡ false → list_all (may_share l.counts.traders) s l.counts.points ≡ true

@@ -4,10 +4,10 @@ use Rattle.std.specs.List.{range_with_len}
 use Rattle.profiles.specs.declared.factors.Factors.{Factors}
 use Rattle.rows.specs.declared.point.Particulars.{Particulars}
 use Rattle.ledger.specs.Days.{loss_of}
-use Rattle.rows.specs.Bookings.{used, new_scale}
-use Rattle.rows.specs.Rows.{profile_use}
-use Rattle.ledger.specs.Sharing.{Tells}
+use Rattle.rows.specs.Bookings.{consumption_to, scale_factor_after}
+use Rattle.rows.specs.Rows.{profile_consumption}
 use Rattle.year.specs.Settlements.{Day, Metered, Settlement, joined, day_shared, booked, points_in, trader_of}
+use Rattle.profiles.specs.Laws.{Tells}
 
 -- A day's figures.
 
@@ -74,14 +74,14 @@ reading_of (booked k v t z ∷ c) j = cond (j == k) v (reading_of c j)
 
 -- the litres between that reading and the next
 abbrev pub use_to : List Settlement → ℕ → ℕ → ℕ
-use_to c j v = used (given_for c j).digits (given_for c j).litres_per_unit (reading_of c j) v
+use_to c j v = consumption_to (given_for c j).digits (given_for c j).litres_per_unit (reading_of c j) v
 
 -- its scale factor: by the rule of its last booking, else as admitted
 unfoldable pub scale_of : List Settlement → ℕ → ℕ
 scale_of [] j = 0
 scale_of (joined g ∷ c) j = cond (j == points_in c) g.scale_factor (scale_of c j)
 scale_of (day_shared d tells ss ∷ c) j = scale_of c j
-scale_of (booked k v t z ∷ c) j = cond (j == k) (new_scale (scale_of c k) (use_to c k v) (period_of c k)) (scale_of c j)
+scale_of (booked k v t z ∷ c) j = cond (j == k) (scale_factor_after (scale_of c k) (use_to c k v) (period_of c k)) (scale_of c j)
 
 -- the consumption of its booked readings, and the corrections told for it
 unfoldable pub consumption_of : List Settlement → ℕ → ℕ
@@ -100,7 +100,7 @@ corrections_of (booked k v t z ∷ c) j = cond (j == k) (corrections_of c j +ℤ
 
 -- its weight on a day: its profile consumption
 abbrev pub weight_of : List Settlement → Day → Tells → ℕ → ℕ
-weight_of c d tells k = profile_use (scale_of c k) (told_for c d tells k).day
+weight_of c d tells k = profile_consumption (scale_of c k) (told_for c d tells k).day
 
 -- the weights of all points together
 abbrev pub weight_sum : List Settlement → Day → Tells → ℕ

@@ -3,7 +3,7 @@
 use Rattle.std.specs.Prelude.{ℕ, ◌+◌, cond, ◌&&◌, List, [], ◌∷◌, take, ℤ, pos, is_ok, Ok, Err, Result, ◌==◌}
 use Rattle.rows.specs.declared.point.Particulars.{Particulars}
 use Rattle.ledger.specs.History.{History, TraderAdmitted, PointAdmitted, Opened, Entered, InflowTaken, Shared, OpenAbandoned, MeasuredAbandoned, PointRead, Booked, HandedOver, Withdrawn}
-use Rattle.ledger.specs.Sharing.{Tells}
+use Rattle.profiles.specs.Laws.{Tells}
 
 -- what an accepted call changes, and what stays as it was after a refused one
 abbrev pub accepted : {A B C : Type 0} → Result A B → C → C → C

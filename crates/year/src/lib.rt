@@ -3,7 +3,7 @@
 
 ghost use Rattle.std.specs.Prelude.{◌≡◌, pos, ◌+ℤ◌};
 ghost use Rattle.ledger.specs.Accounts.{all_accounts};
-ghost use Rattle.ledger.specs.History.{History, Leads};
+ghost use Rattle.ledger.specs.History.{History, IsHistoryOf};
 ghost use Rattle.year.specs.Settlements.{settlements};
 ghost use Rattle.year.specs.Quantities.{inflow_of};
 ghost use Rattle.year.specs.Law.{YearLaw};
@@ -26,8 +26,8 @@ pub fn totals(ledger: &Ledger, _sheet: &[Point]) -> Balance
     ensures accounts { result.accounts ≡ all_accounts ledger.now.book.traders }
     ensures correction { result.correction ≡ ledger.now.book.correction }
     ensures sum { result.inflow ≡ pos result.loss +ℤ result.accounts +ℤ result.correction }
-    ensures inflow { (h : History) → Leads h ledger.now.book _sheet.now → result.inflow ≡ pos (inflow_of (settlements h)) }
-    ensures law { (h : History) → Leads h ledger.now.book _sheet.now → YearLaw (settlements h) ledger.now.book _sheet.now }
+    ensures inflow { (h : History) → IsHistoryOf h ledger.now.book _sheet.now → result.inflow ≡ pos (inflow_of (settlements h)) }
+    ensures law { (h : History) → IsHistoryOf h ledger.now.book _sheet.now → YearLaw (settlements h) ledger.now.book _sheet.now }
 {
     let loss = ledger.loss();
     let accounts = ledger.accounts();

@@ -35,12 +35,8 @@ impl Ledger {
 
     /// Opens a day at a temperature and in a season; or refusal 5, 22 or 23.
     pub fn open(&mut self, weather: Weather) -> Result<OpenDay, Refusal>
-        ensures became {
-            (s : List Row) → Became (opening self.old.book s weather) result self.new.book s
-        }
-        ensures run {
-            (s : List Row) → Step (Opened weather result) self.old.book s self.new.book s
-        }
+        ensures became { (s : List Row) → Became (opening self.old.book s weather) result self.new.book s }
+        ensures run { (s : List Row) → Step (Opened weather result) self.old.book s self.new.book s }
     {
         self.check_opening(weather)?;
         let number = self.book.counts.opened + 1;
@@ -76,14 +72,10 @@ impl Ledger {
     /// Adds litres, up to 1,000,000,000, to a trader's metered sum of today; or refusal 3, 6, 20 or
     /// 24.
     pub fn enter(&mut self, day: &OpenDay, trader: u32, litres: u64) -> Result<(), Refusal>
-        ensures became {
-            (s : List Row) →
-            Became (metered_entry self.old.book s day.now trader litres) result self.new.book s
-        }
-        ensures run {
-            (s : List Row) →
-            Step (Entered day.now trader litres result) self.old.book s self.new.book s
-        }
+        ensures became { (s : List Row) →
+            Became (metered_entry self.old.book s day.now trader litres) result self.new.book s }
+        ensures run { (s : List Row) →
+            Step (Entered day.now trader litres result) self.old.book s self.new.book s }
     {
         self.check_entry(day, trader, litres)?;
         self.book.traders[trader as usize].metered += litres;
@@ -113,14 +105,10 @@ impl Ledger {
         inflow: u64,
         rate: u32,
     ) -> Result<MeasuredDay, Refused<OpenDay>>
-        ensures became {
-            (s : List Row) →
-            Became (measurement self.old.book s day inflow rate) result self.new.book s
-        }
-        ensures run {
-            (s : List Row) →
-            Step (InflowTaken day inflow rate result) self.old.book s self.new.book s
-        }
+        ensures became { (s : List Row) →
+            Became (measurement self.old.book s day inflow rate) result self.new.book s }
+        ensures run { (s : List Row) →
+            Step (InflowTaken day inflow rate result) self.old.book s self.new.book s }
     {
         if let Err(why) = self.check_inflow(&day, inflow, rate) {
             return Err(Refused { why, given: day });
@@ -141,15 +129,11 @@ impl Ledger {
 
     // Ends the running day with nothing settled.
     fn abandon<T: Token>(&mut self, day: T) -> Result<(), Refused<T>>
-        ensures became {
+        ensures became { (s : List Row) →
+            Became (abandonment self.old.book s (T.Token.token day) day) result self.new.book s }
+        ensures run { let returned = token_handed_back T.Token.token result in
             (s : List Row) →
-            Became (abandonment self.old.book s (T.Token.token day) day) result self.new.book s
-        }
-        ensures run {
-            let returned = token_handed_back T.Token.token result in
-            (s : List Row) →
-            Step (Abandoned (T.Token.token day) returned) self.old.book s self.new.book s
-        }
+            Step (Abandoned (T.Token.token day) returned) self.old.book s self.new.book s }
     {
         if !day.is_running(self.book.phase) {
             return Err(Refused {
@@ -164,30 +148,22 @@ impl Ledger {
 
     /// Ends an open day with nothing settled; or refusal 20, which hands the day back.
     pub fn abandon_open(&mut self, day: OpenDay) -> Result<(), Refused<OpenDay>>
-        ensures became {
+        ensures became { (s : List Row) →
+            Became (abandonment self.old.book s (OpenToken day) day) result self.new.book s }
+        ensures run { let returned = token_handed_back OpenToken result in
             (s : List Row) →
-            Became (abandonment self.old.book s (OpenToken day) day) result self.new.book s
-        }
-        ensures run {
-            let returned = token_handed_back OpenToken result in
-            (s : List Row) →
-            Step (Abandoned (OpenToken day) returned) self.old.book s self.new.book s
-        }
+            Step (Abandoned (OpenToken day) returned) self.old.book s self.new.book s }
     {
         self.abandon(day)
     }
 
     /// Ends a measured day with nothing settled; or refusal 20, which hands the day back.
     pub fn abandon_measured(&mut self, day: MeasuredDay) -> Result<(), Refused<MeasuredDay>>
-        ensures became {
+        ensures became { (s : List Row) →
+            Became (abandonment self.old.book s (MeasuredToken day) day) result self.new.book s }
+        ensures run { let returned = token_handed_back MeasuredToken result in
             (s : List Row) →
-            Became (abandonment self.old.book s (MeasuredToken day) day) result self.new.book s
-        }
-        ensures run {
-            let returned = token_handed_back MeasuredToken result in
-            (s : List Row) →
-            Step (Abandoned (MeasuredToken day) returned) self.old.book s self.new.book s
-        }
+            Step (Abandoned (MeasuredToken day) returned) self.old.book s self.new.book s }
     {
         self.abandon(day)
     }

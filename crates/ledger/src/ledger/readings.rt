@@ -17,10 +17,8 @@ use rows::{FitRow, Point, dial_end};
 impl Ledger {
     // The row of a point admitted.
     fn row(&self, sheet: &[Point], point: usize) -> Result<Point, Refusal>
-        ensures {
-            result ≡ call_answer (row_fault self.now.book.counts.points sheet.now point)
-            (row_at sheet.now point)
-        }
+        ensures { result ≡ call_answer (row_fault self.now.book.counts.points sheet.now point)
+            (row_at sheet.now point) }
     {
         self.rows(sheet)?
             .get(point)
@@ -30,10 +28,8 @@ impl Ledger {
 
     // The row of a point that can be read.
     fn readable(&self, sheet: &[Point], point: usize, reading: u32) -> Result<Point, Refusal>
-        ensures {
-            result ≡ call_answer (reading_fault self.now.book sheet.now point reading)
-            (row_at sheet.now point)
-        }
+        ensures { result ≡ call_answer (reading_fault self.now.book sheet.now point reading)
+            (row_at sheet.now point) }
     {
         let row = self.row(sheet, point)?;
         if !row.fits() {
@@ -54,12 +50,8 @@ impl Ledger {
     /// Reads a point: its row keeps the reading, in dial units, until the slip ends; or refusal 1,
     /// 4, 11, 7, 27 or 28.
     pub fn read(&mut self, sheet: &mut [Point], point: usize, reading: u32) -> Result<Slip, Refusal>
-        ensures became {
-            Became (reading_at self.old.book sheet.old point reading) result self.new.book sheet.new
-        }
-        ensures run {
-            Step (PointRead point reading result) self.old.book sheet.old self.new.book sheet.new
-        }
+        ensures became { Became (reading_at self.old.book sheet.old point reading) result self.new.book sheet.new }
+        ensures run { Step (PointRead point reading result) self.old.book sheet.old self.new.book sheet.new }
     {
         let row = self.readable(sheet, point, reading)?;
         let number = self.book.counts.readings + 1;
@@ -71,12 +63,10 @@ impl Ledger {
     // The row of a slip that can be booked: its own open one, where there are fewer bookings than
     // readings.
     fn bookable(&self, sheet: &[Point], slip: &Slip) -> Result<FitRow, Refusal>
-        ensures {
-            let fault = booking_fault self.now.book sheet.now slip.now in
+        ensures { let fault = booking_fault self.now.book sheet.now slip.now in
             MatchResult result
             (λ fit. (fault ≡ None) × (fit.row ≡ row_at sheet.now slip.now.point))
-            (λ why. fault ≡ Some why)
-        }
+            (λ why. fault ≡ Some why) }
     {
         let row = self.row(sheet, slip.point)?;
         if !row.may_book(self.book.counts.traders) {
@@ -105,12 +95,8 @@ impl Ledger {
     /// Books a reading: the correction, in litres, is added to the trader's account and taken from
     /// the distributor's; or refusal 1, 4, 11 or 21, which hands the slip back.
     pub fn book(&mut self, sheet: &mut [Point], slip: Slip) -> Result<i64, Refused<Slip>>
-        ensures became {
-            Became (booking self.old.book sheet.old slip) result self.new.book sheet.new
-        }
-        ensures run {
-            Step (Booked slip result) self.old.book sheet.old self.new.book sheet.new
-        }
+        ensures became { Became (booking self.old.book sheet.old slip) result self.new.book sheet.new }
+        ensures run { Step (Booked slip result) self.old.book sheet.old self.new.book sheet.new }
     {
         match self.bookable(sheet, &slip) {
             Err(why) => Err(Refused { why, given: slip }),
@@ -125,12 +111,10 @@ impl Ledger {
 
     // The row of a point that can be handed over.
     fn transferable(&self, sheet: &[Point], slip: &Slip, trader: u32) -> Result<FitRow, Refusal>
-        ensures {
-            let fault = hand_over_fault self.now.book sheet.now slip.now trader in
+        ensures { let fault = hand_over_fault self.now.book sheet.now slip.now trader in
             MatchResult result
             (λ fit. (fault ≡ None) × (fit.row ≡ row_at sheet.now slip.now.point))
-            (λ why. fault ≡ Some why)
-        }
+            (λ why. fault ≡ Some why) }
     {
         self.rows(sheet)?;
         self.trader(trader)?;
@@ -150,12 +134,8 @@ impl Ledger {
         slip: Slip,
         trader: u32,
     ) -> Result<i64, Refused<Slip>>
-        ensures became {
-            Became (hand_over self.old.book sheet.old slip trader) result self.new.book sheet.new
-        }
-        ensures run {
-            Step (HandedOver slip trader result) self.old.book sheet.old self.new.book sheet.new
-        }
+        ensures became { Became (hand_over self.old.book sheet.old slip trader) result self.new.book sheet.new }
+        ensures run { Step (HandedOver slip trader result) self.old.book sheet.old self.new.book sheet.new }
     {
         match self.transferable(sheet, &slip, trader) {
             Err(why) => Err(Refused { why, given: slip }),
@@ -170,10 +150,8 @@ impl Ledger {
 
     // The row of a point whose open slip this is.
     fn withdrawable(&self, sheet: &[Point], slip: &Slip) -> Result<Point, Refusal>
-        ensures {
-            result ≡ call_answer (withdrawal_fault self.now.book sheet.now slip.now)
-            (row_at sheet.now slip.now.point)
-        }
+        ensures { result ≡ call_answer (withdrawal_fault self.now.book sheet.now slip.now)
+            (row_at sheet.now slip.now.point) }
     {
         let row = self.row(sheet, slip.point)?;
         if !row.is_slip(slip.number) {
@@ -185,12 +163,8 @@ impl Ledger {
     /// Withdraws a reading: the slip ends and nothing is booked; or refusal 1, 4 or 21, which hands
     /// the slip back.
     pub fn withdraw(&self, sheet: &mut [Point], slip: Slip) -> Result<(), Refused<Slip>>
-        ensures became {
-            Became (withdrawal self.now.book sheet.old slip) result self.now.book sheet.new
-        }
-        ensures run {
-            Step (Withdrawn slip result) self.now.book sheet.old self.now.book sheet.new
-        }
+        ensures became { Became (withdrawal self.now.book sheet.old slip) result self.now.book sheet.new }
+        ensures run { Step (Withdrawn slip result) self.now.book sheet.old self.now.book sheet.new }
     {
         match self.withdrawable(sheet, &slip) {
             Err(why) => Err(Refused { why, given: slip }),

@@ -1,18 +1,20 @@
-// The share-out of a measured day: test the rows, weigh them, share by the rule, book. Each is one pass, and nothing allocates.
+//! The share-out of a measured day: test the rows, weigh them, share by the rule, book. Each is one
+//! pass, and nothing allocates.
 ghost use Rattle.std.specs.Prelude.{◌≡◌, ℕ, ◌+◌, ◌*◌, ◌^◌, ◌<◌, ◌≤◌, true, ◌++◌, map, length, take, drop, sum};
-ghost use Rattle.std.specs.List.{range_with_len};
-ghost use Rattle.ledger.specs.Accounts.{Settling, credited_to, pending, settled};
-ghost use Rattle.ledger.specs.Grounds.{answered};
-ghost use Rattle.ledger.specs.History.{Goes, Means, Shared};
-ghost use Rattle.rows.specs.Rows.{every, may_share, is_free, is_served, factors_at, row_at, profile_use, profile_uses, shared_row, shared_rows};
-ghost use Rattle.ledger.specs.Sharing.{Creditable, Weighable, told_on, day_quantity, day_loss, day_uses, shared_book, share_grounds, share_answer, share_book, share_sheet, share_uses, share_shares};
+ghost use Rattle.std.specs.List.{list_all, range_with_len};
+ghost use Rattle.rows.specs.Rows.{may_share, is_free, is_served, factors_at, row_at, profile_consumptions, shared_rows};
+ghost use Rattle.ledger.specs.Accounts.{with_shares, running_days, settled_trader, CanSettle};
+ghost use Rattle.ledger.specs.Grounds.{call_answer};
+ghost use Rattle.ledger.specs.History.{Step, Shared};
+ghost use Rattle.ledger.specs.Sharing.{CanCredit, IsWeighable, SharesOut, inputs_of, factors_on, day_quantity};
+ghost use Rattle.ledger.specs.Sharing.{day_consumptions, shared_book, share_out_grounds, work_sheets_of};
 
 use super::Ledger;
 use crate::book::Trader;
 use crate::day::{MeasuredDay, Phase, SharedOut, Token};
 use profiles::{Factors, Profile, Weather};
 use refusals::{Refusal, Refused};
-use rows::{Point, profile_use};
+use rows::Point;
 use shares::ShareRule;
 use std::array;
 
@@ -24,11 +26,11 @@ struct RowTests {
     served: bool,
 }
 
-// Tests the rows: one pass tells three facts, where three `all`s are three passes, and a `fold` over the record is no plainer.
+// Tests the rows for the three in one pass.
 fn test_rows(rows: &[Point], traders: u32, segments: u32) -> RowTests
-    ensures share { result.may_share ≡ every (may_share traders) rows.now (length rows.now) }
-    ensures free { result.free ≡ every is_free rows.now (length rows.now) }
-    ensures served { result.served ≡ every (is_served segments) rows.now (length rows.now) }
+    ensures share { result.may_share ≡ list_all (may_share traders) rows.now }
+    ensures free { result.free ≡ list_all is_free rows.now }
+    ensures served { result.served ≡ list_all (is_served segments) rows.now }
 {
     let mut may_share = true;
     let mut free = true;
@@ -36,7 +38,7 @@ fn test_rows(rows: &[Point], traders: u32, segments: u32) -> RowTests
     for row in rows {
         may_share &= row.may_share(traders);
         free &= row.is_free();
-        served &= row.segment < segments;
+        served &= row.is_served(segments);
     }
     RowTests {
         may_share,
@@ -45,33 +47,31 @@ fn test_rows(rows: &[Point], traders: u32, segments: u32) -> RowTests
     }
 }
 
-// A day's weights: what the profile told for each segment, and the sum of the profile consumptions.
+// A day's weights: the factors of each segment, and the sum of the profile consumptions.
 #[derive(Clone, Copy)]
-struct Weighed {
-    told: [Factors; 8],
+struct Weights {
+    factors: [Factors; 8],
     total: u64,
 }
 
-// What the profile tells for each segment on a day. It is asked once a segment, and not once a point.
+// The factors of each segment on a day: the profile is asked once a segment, not once a point.
 fn ask<P: Profile>(profile: &P, weather: Weather) -> [Factors; 8]
-    ensures { result ≡ map (λ (k : ℕ). P.Profile.tells profile.now k weather.temperature weather.season) (range_with_len 0 8) }
+    ensures { result ≡ map (λ (k : ℕ). P.Profile.tells profile.now k weather) (range_with_len 0 8) }
 {
-    // A cast: there is no `From` of usize for u32.
     array::from_fn(|segment| profile.tell(segment as u32, weather))
 }
 
 // Writes the rows' profile consumptions, and gives their sum.
-fn weigh(rows: &[Point], told: &[Factors; 8], uses: &mut [u64]) -> u64
+fn weigh(rows: &[Point], factors: &[Factors; 8], uses: &mut [u64]) -> u64
     requires few { length rows.now ≤ 4096 }
     requires room { length uses.old ≡ length rows.now }
     requires segments { (k : ℕ) → k < length rows.now → (row_at rows.now k).segment < 8 }
-    ensures written { uses.new ≡ profile_uses (factors_at told.now) rows.now }
-    ensures total { result ≡ sum (profile_uses (factors_at told.now) rows.now) }
+    ensures written { uses.new ≡ profile_consumptions (factors_at factors.now) rows.now }
+    ensures total { result ≡ sum (profile_consumptions (factors_at factors.now) rows.now) }
 {
     let mut total = 0;
-    // Tried: a `zip` with `uses.iter_mut()`. Of what is written so a proof learns only the length.
     for (i, row) in rows.iter().enumerate() {
-        let own = profile_use(row.scale_factor, told[row.segment as usize].day);
+        let own = row.profile_consumption(factors[row.segment as usize].day);
         uses[i] = own;
         total += own;
     }
@@ -88,24 +88,24 @@ fn divide<R: ShareRule>(rule: &R, quantity: u64, n: usize, uses: &[u64], shares:
     rule.share(quantity, &uses[..n], front);
 }
 
-// Books the shares of the rows: to their open sums and their traders' accounts; and the multipliers to their period sums.
-fn credit(traders: &mut [Trader; 64], rows: &mut [Point], told: &[Factors; 8], shares: &[u64])
-    requires { Creditable traders.old rows.old shares.now }
-    ensures traders { traders.new ≡ credited_to traders.old rows.old shares.now (length rows.old) }
-    ensures rows { rows.new ≡ shared_rows (factors_at told.now) rows.old shares.now (length rows.old) }
+// Books the shares of the rows: to their open sums and their traders' accounts; and the multipliers
+// to their period sums.
+fn credit(traders: &mut [Trader; 64], rows: &mut [Point], factors: &[Factors; 8], shares: &[u64])
+    requires { CanCredit traders.old rows.old shares.now }
+    ensures traders { traders.new ≡ with_shares traders.old rows.old shares.now (length rows.old) }
+    ensures rows { rows.new ≡ shared_rows (factors_at factors.now) rows.old shares.now (length rows.old) }
 {
-    // Tried: a `zip` with `rows.iter_mut()`. Of what is written so a proof learns only the length.
     for (i, share) in shares.iter().enumerate() {
         let row = rows[i];
         traders[row.trader as usize].credit(*share);
-        rows[i] = row.shared(*share, told[row.segment as usize]);
+        rows[i] = row.shared(*share, factors[row.segment as usize]);
     }
 }
 
 // Moves the metered sums of today to the traders' accounts.
 fn settle(traders: &mut [Trader; 64])
-    requires { Settling traders.old }
-    ensures { traders.new ≡ map settled traders.old }
+    requires { CanSettle traders.old }
+    ensures { traders.new ≡ map settled_trader traders.old }
 {
     for trader in traders.iter_mut() {
         trader.settle();
@@ -113,7 +113,7 @@ fn settle(traders: &mut [Trader; 64])
 }
 
 impl Ledger {
-    // The grounds of a share-out but for the last.
+    // The grounds of a share-out but for the last; uses and shares: the places of the work sheets.
     fn check_share_out<P: Profile>(
         &self,
         day: &MeasuredDay,
@@ -121,7 +121,9 @@ impl Ledger {
         uses: usize,
         shares: usize,
     ) -> Result<(), Refusal>
-        ensures { result ≡ answered (share_grounds self.now.book day.now sheet.now P.Profile.SEGMENTS uses shares) tt }
+        ensures { let segments = P.Profile.SEGMENTS in
+            result
+            ≡ call_answer (share_out_grounds self.now.book sheet.now day.now segments uses shares) tt }
     {
         let rows = self.rows(sheet)?;
         if uses < rows.len() || shares < rows.len() {
@@ -143,18 +145,21 @@ impl Ledger {
         Ok(())
     }
 
-    // Asks the profile and weighs the points: their profile consumptions come into the first places of the work sheet.
-    fn weigh_day<P: Profile>(&self, sheet: &[Point], profile: &P, uses: &mut [u64]) -> Weighed
-        requires { Weighable self.now.book sheet.now (length uses.old) }
-        ensures told { result.told ≡ map (told_on self.now.book.phase (P.Profile.tells profile.now)) (range_with_len 0 8) }
-        ensures written { uses.new ≡ day_uses self.now.book sheet.now (P.Profile.tells profile.now) ++ drop self.now.book.counts.points uses.old }
-        ensures total { result.total ≡ sum (day_uses self.now.book sheet.now (P.Profile.tells profile.now)) }
+    // Asks the profile and weighs the points: their profile consumptions come into the first places
+    // of the work sheet.
+    fn weigh_day<P: Profile>(&self, sheet: &[Point], profile: &P, uses: &mut [u64]) -> Weights
+        requires { IsWeighable self.now.book sheet.now (length uses.old) }
+        ensures factors { let tells = P.Profile.tells profile.now in
+            result.factors ≡ map (factors_on self.now.book.phase tells) (range_with_len 0 8) }
+        ensures written { let consumptions = day_consumptions self.now.book sheet.now (P.Profile.tells profile.now) in
+            uses.new ≡ consumptions ++ drop self.now.book.counts.points uses.old }
+        ensures total { result.total ≡ sum (day_consumptions self.now.book sheet.now (P.Profile.tells profile.now)) }
     {
         let n = self.book.counts.points;
-        let told = ask(profile, self.book.phase.weather());
+        let factors = ask(profile, self.book.phase.weather());
         let front = &mut uses[..n];
-        let total = weigh(&sheet[..n], &told, front);
-        Weighed { told, total }
+        let total = weigh(&sheet[..n], &factors, front);
+        Weights { factors, total }
     }
 
     // Shares the running day's quantity by the rule, books the shares and closes the day.
@@ -162,22 +167,29 @@ impl Ledger {
         &mut self,
         sheet: &mut [Point],
         rule: &R,
-        told: &[Factors; 8],
+        factors: &[Factors; 8],
         uses: &[u64],
         shares: &mut [u64],
     )
-        requires weighed { Weighable self.old.book sheet.old (length uses.now) }
+        requires weighed { IsWeighable self.old.book sheet.old (length uses.now) }
         requires room { self.old.book.counts.points ≤ length shares.old }
-        requires running { pending self.old.book.phase ≡ 1 }
-        ensures given { shares.new ≡ R.ShareRule.shares (day_quantity self.old.book.phase) (take self.old.book.counts.points uses.now) ++ drop self.old.book.counts.points shares.old }
-        ensures state { self.new.book ≡ shared_book self.old.book sheet.old (R.ShareRule.shares (day_quantity self.old.book.phase) (take self.old.book.counts.points uses.now)) }
-        ensures rows { sheet.new ≡ shared_rows (factors_at told.now) sheet.old (R.ShareRule.shares (day_quantity self.old.book.phase) (take self.old.book.counts.points uses.now)) self.old.book.counts.points }
+        requires running { running_days self.old.book.phase ≡ 1 }
+        ensures given { let n = self.old.book.counts.points in
+            let quantity = day_quantity self.old.book.phase in
+            shares.new ≡ R.ShareRule.shares quantity (take n uses.now) ++ drop n shares.old }
+        ensures state { let n = self.old.book.counts.points in
+            let quantity = day_quantity self.old.book.phase in
+            self.new.book
+            ≡ shared_book self.old.book sheet.old (R.ShareRule.shares quantity (take n uses.now)) }
+        ensures rows { let n = self.old.book.counts.points in
+            let given = R.ShareRule.shares (day_quantity self.old.book.phase) (take n uses.now) in
+            sheet.new ≡ shared_rows (factors_at factors.now) sheet.old given n }
     {
         let n = self.book.counts.points;
         let loss = self.book.phase.loss();
         divide(rule, self.book.phase.quantity(), n, uses, shares);
         let rows = &mut sheet[..n];
-        credit(&mut self.book.traders, rows, told, &shares[..n]);
+        credit(&mut self.book.traders, rows, factors, &shares[..n]);
         settle(&mut self.book.traders);
         self.book.loss += loss;
         self.book.counts.shared += 1;
@@ -185,9 +197,10 @@ impl Ledger {
         self.book.phase = Phase::Idle;
     }
 
-    // Shares out a measured day by a profile and a share rule. The first work sheet gets the points' profile consumptions, the
-    // second their shares. The three sheets stay lent slices of their own, since the caller owns each (a rule of the project), and
-    // profile and rule are chosen apart.
+    /// Shares out a measured day by a profile and a share rule. The first places of the first work
+    /// sheet get the points' profile consumptions, those of the second their shares, in litres. Or
+    /// refusal 1, 2, 11, 20, 30, 31 or 32, which hands the day back; after 32 the first work sheet's
+    /// places hold 0.
     pub fn share_out<P: Profile, R: ShareRule>(
         &mut self,
         day: MeasuredDay,
@@ -197,26 +210,28 @@ impl Ledger {
         uses: &mut [u64],
         shares: &mut [u64],
     ) -> Result<SharedOut, Refused<MeasuredDay>>
-        ensures answer { result ≡ share_answer self.old.book day sheet.old (P.Profile.tells profile.now) P.Profile.SEGMENTS (length uses.old) (length shares.old) }
-        ensures state { self.new.book ≡ share_book self.old.book day sheet.old (P.Profile.tells profile.now) R.ShareRule.shares P.Profile.SEGMENTS (length uses.old) (length shares.old) }
-        ensures rows { sheet.new ≡ share_sheet self.old.book day sheet.old (P.Profile.tells profile.now) R.ShareRule.shares P.Profile.SEGMENTS (length uses.old) (length shares.old) }
-        ensures weighed { uses.new ≡ share_uses self.old.book day sheet.old (P.Profile.tells profile.now) P.Profile.SEGMENTS uses.old (length shares.old) }
-        ensures given { shares.new ≡ share_shares self.old.book day sheet.old (P.Profile.tells profile.now) R.ShareRule.shares P.Profile.SEGMENTS (length uses.old) shares.old }
-        ensures run { Goes (Shared day (record { tells = P.Profile.tells profile.now; segments = P.Profile.SEGMENTS; rule = R.ShareRule.shares; uses = uses.old; shares = shares.old }) result uses.new shares.new) self.old.book sheet.old self.new.book sheet.new }
+        ensures became { let tells = P.Profile.tells profile.now in
+            let handed = inputs_of tells P.Profile.SEGMENTS R.ShareRule.shares uses.old shares.old in
+            SharesOut self.old.book sheet.old day handed result self.new.book sheet.new
+            (work_sheets_of uses.new shares.new) }
+        ensures run { let tells = P.Profile.tells profile.now in
+            let handed = inputs_of tells P.Profile.SEGMENTS R.ShareRule.shares uses.old shares.old in
+            Step (Shared day handed result (work_sheets_of uses.new shares.new))
+            self.old.book sheet.old self.new.book sheet.new }
     {
         if let Err(why) = self.check_share_out::<P>(&day, sheet, uses.len(), shares.len()) {
             return Err(Refused { why, given: day });
         }
         let quantity = self.book.phase.quantity();
         let loss = self.book.phase.loss();
-        let Weighed { told, total } = self.weigh_day(sheet, profile, uses);
+        let Weights { factors, total } = self.weigh_day(sheet, profile, uses);
         if quantity > 0 && total == 0 {
             return Err(Refused {
                 why: Refusal::NoWeight,
                 given: day,
             });
         }
-        self.close_day(sheet, rule, &told, uses, shares);
+        self.close_day(sheet, rule, &factors, uses, shares);
         day.end();
         Ok(SharedOut {
             quantity,
@@ -225,4 +240,3 @@ impl Ledger {
         })
     }
 }
-

@@ -1,17 +1,16 @@
-use Rattle.std.proofs.Common.{rules, arith}
-use Rattle.std.proofs.lemmas.Grind.{common_steps}
+use Rattle.std.proofs.Common.{rules}
 use Rattle.rows.specs.declared.point.Point.{Point}
-use Rattle.ledger.specs.Readings.{book_fault}
+use Rattle.ledger.specs.Readings.{booking_fault}
 use Rattle.ledger.proofs.AcceptedReadings.{books}
 use Rattle.ledger.proofs.Booking.{booked_step}
 use Rattle.ledger.proofs.ledger.Ledger.book.Goals as goal
 
-pub book_row-told-requires-clause-owned : goal.book_row-told-requires-clause-owned
-book_row-told-requires-clause-owned c =
+pub book_row-by-requires-clause-owned : goal.book_row-by-requires-clause-owned
+book_row-by-requires-clause-owned c =
     let l = c.args.self.now.book in
     let s = c.args.sheet.now in
     let slip = c.args.slip in
-    let k = c.in-Ok.ensures.ok in
+    let k = c.in-Ok.ensures in
     rw k.1 (books l s slip k.0).owned
 
 pub returns-in-Ok : goal.returns-in-Ok
@@ -19,7 +18,7 @@ returns-in-Ok c =
     let l = c.args.self.now.book in
     let s = c.args.sheet.now in
     let slip = c.args.slip in
-    let k = c.in-Ok.ensures.ok in
-    let b = c.book_row-told.ensures in
-    let e = booked_step l s slip (book_fault l s slip) c.in-Ok.fit.row k.0 k.1 (λ (r : Point). r.trader) c.book_row-told.result c.book_row-told.new.self.book c.booked.result (search rules) b.told b.state c.booked.ensures in
-    record { run = e }
+    let k = c.in-Ok.ensures in
+    let b = c.book_row-by.ensures in
+    let e = booked_step l s slip (booking_fault l s slip) c.in-Ok.fit.row k.0 k.1 (λ (r : Point). r.trader) c.book_row-by.result c.book_row-by.new.self.book c.booked.result (search rules) b.moved b.state c.booked.ensures in
+    record { became = e; run = e }

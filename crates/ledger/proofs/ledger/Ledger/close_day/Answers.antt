@@ -1,15 +1,13 @@
 use Rattle.std.proofs.Common.{sym, subst}
-use Rattle.ledger.specs.Accounts.{Sound}
-use Rattle.ledger.specs.History.{LawfulRule}
+use Rattle.ledger.specs.Accounts.{IsSound}
 use Rattle.rows.specs.Rows.{factors_at}
 use Rattle.ledger.proofs.ShareOut.{creditable, ready, closed_book, closed_rows, closed_sound}
+use Rattle.shares.specs.Laws.{IsShareRule}
 use Rattle.ledger.proofs.ledger.Ledger.close_day.Given as given
 use Rattle.ledger.proofs.ledger.Ledger.close_day.Goals as goal
 
-law-of : (g : given.Over) → LawfulRule g.R.ShareRule.shares
-law-of g =
-    let met = g.met.R.ShareRule in
-    record { places = met.places; whole = met.whole; near = met.near; refused = met.refused }
+law-of : (g : given.Over) → IsShareRule g.R.ShareRule.shares
+law-of g = g.met.R.ShareRule.laws
 
 pub credit-requires : goal.credit-requires
 credit-requires g c =
@@ -32,7 +30,7 @@ invariant_of-self g c =
     c.loss-loss.result c.credit.new.traders c.settle.new.traders c.loss-loss.ensures c.credit.ensures.traders c.settle.ensures in
     let sound = closed_sound l s g.R.ShareRule.shares (law-of g) c.args.self.now.sound c.args.uses.now c.args.shares.now c.divide.new.shares c.requires.weighed c.requires.room c.quantity.result c.quantity.ensures c.divide.ensures
     c.requires.running in
-    record { sound = subst Sound (sym state) sound }
+    record { sound = subst IsSound (sym state) sound }
 
 pub returns-clause-state : goal.returns-clause-state
 returns-clause-state g c =
@@ -46,4 +44,4 @@ returns-clause-rows g c =
     let l = c.args.self.now.book in
     let s = c.args.sheet.now in
     closed_rows l s g.R.ShareRule.shares (law-of g) c.args.self.now.sound c.args.uses.now c.args.shares.now c.divide.new.shares c.requires.weighed c.requires.room c.quantity.result c.quantity.ensures c.divide.ensures
-    (factors_at c.args.told.now) c.credit.new.rows c.credit.ensures.rows
+    (factors_at c.args.factors.now) c.credit.new.rows c.credit.ensures.rows

@@ -1,7 +1,6 @@
-use Rattle.std.proofs.Common.{rules, arith}
-use Rattle.std.proofs.lemmas.Grind.{common_steps}
+use Rattle.std.proofs.Common.{rules}
 use Rattle.rows.specs.declared.point.Point.{Point}
-use Rattle.ledger.specs.Readings.{hand_fault}
+use Rattle.ledger.specs.Readings.{hand_over_fault}
 use Rattle.ledger.proofs.AcceptedReadings.{hands_over}
 use Rattle.ledger.proofs.Booking.{booked_step}
 use Rattle.ledger.proofs.ledger.Ledger.hand_over.Goals as goal
@@ -11,7 +10,7 @@ book_row-by-requires-clause-owned c =
     let l = c.args.self.now.book in
     let s = c.args.sheet.now in
     let slip = c.args.slip in
-    let k = c.in-Ok.ensures.ok in
+    let k = c.in-Ok.ensures in
     rw k.1 ((hands_over l s slip c.args.trader k.0).books).owned
 
 pub returns-in-Ok : goal.returns-in-Ok
@@ -19,7 +18,7 @@ returns-in-Ok c =
     let l = c.args.self.now.book in
     let s = c.args.sheet.now in
     let slip = c.args.slip in
-    let k = c.in-Ok.ensures.ok in
+    let k = c.in-Ok.ensures in
     let b = c.book_row-by.ensures in
-    let e = booked_step l s slip (hand_fault l s slip c.args.trader) c.in-Ok.fit.row k.0 k.1 (λ (r : Point). c.args.trader) c.book_row-by.result c.book_row-by.new.self.book c.booked.result (search rules) b.told b.state c.booked.ensures in
-    record { run = e }
+    let e = booked_step l s slip (hand_over_fault l s slip c.args.trader) c.in-Ok.fit.row k.0 k.1 (λ (r : Point). c.args.trader) c.book_row-by.result c.book_row-by.new.self.book c.booked.result (search rules) b.moved b.state c.booked.ensures in
+    record { became = e; run = e }

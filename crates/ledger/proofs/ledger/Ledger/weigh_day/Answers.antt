@@ -21,10 +21,10 @@ pub returns : goal.returns
 returns g c =
     let l = c.args.self.now.book in
     let f = g.P.Profile.tells c.args.profile.now in
-    let asked = c.ask-told.ensures ∙ ap (λ (w : Weather). map (λ (k : ℕ). f k w.temperature w.season) (range_with_len 0 8)) c.weather.ensures in
-    let same = weighed_is l c.args.sheet.now f (length c.args.uses.now) c.requires c.ask-told.result asked in
+    let asked = c.ask-factors.ensures ∙ ap (λ (w : Weather). map (λ (k : ℕ). f k w) (range_with_len 0 8)) c.weather.ensures in
+    let same = weighed_is l c.args.sheet.now f (length c.args.uses.now) c.requires c.ask-factors.result asked in
     record {
-      told = asked;
+      factors = asked;
       written = ap (λ u. u ++ drop l.counts.points c.args.uses.now) (c.weigh-total.ensures.written ∙ same);
       total = c.weigh-total.ensures.total ∙ ap sum same;
     }

@@ -1,11 +1,13 @@
-use Rattle.std.proofs.Common.{◌≡◌}
-use Rattle.rows.specs.Rows.{every, may_share, is_free, is_served}
+use Rattle.std.proofs.Common.{◌≡◌, take}
+use Rattle.std.specs.List.{list_all}
+use Rattle.rows.specs.Rows.{may_share, is_free, is_served}
 use Rattle.ledger.proofs.ledger.share.test_rows.Given as goal
 
 abbrev pub invariant-loop-row : goal.invariant-loop-row
 invariant-loop-row l =
+    let front = take l.row-index l.rows in
     record {
-      share : l.may_share ≡ every (may_share l.traders) l.rows l.row-index;
-      free : l.free ≡ every is_free l.rows l.row-index;
-      served : l.served ≡ every (is_served l.segments) l.rows l.row-index;
+      share : l.may_share ≡ list_all (may_share l.traders) front;
+      free : l.free ≡ list_all is_free front;
+      served : l.served ≡ list_all (is_served l.segments) front;
     }
