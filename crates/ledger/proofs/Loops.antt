@@ -4,7 +4,7 @@ use Rattle.std.proofs.lemmas.List.Edits.{map_over_more}
 use Rattle.std.proofs.lemmas.List.{length-append, length-map, length-take, length-drop, get_or_default, take_all, drop_all, append-nil}
 use Rattle.std.proofs.lemmas.Int.{ints}
 use Rattle.ledger.specs.declared.book.Trader.{Trader}
-use Rattle.ledger.specs.Accounts.{no_trader, account_at, all_accounts}
+use Rattle.ledger.specs.Accounts.{no_trader, account_at, all_accounts, signed_sum_by}
 
 -- the traders in the middle of a pass that changes each by f
 abbrev pub partly : (Trader → Trader) → List Trader → ℕ → List Trader
@@ -36,7 +36,7 @@ still P f ts ys i e h = subst P (sym (ap (λ us. get_or us i no_trader) e ∙ pa
 
 -- the accounts of the first i traders together, one more
 pub accounts_more : (ts : List Trader) (i : ℕ) → i < length ts → all_accounts (take (i + 1) ts) ≡ all_accounts (take i ts) +ℤ account_at ts i
-unfolding all_accounts
+unfolding signed_sum_by
 accounts_more [] i h = absurd (let q : ⊥ = omega arith in q)
 accounts_more (t ∷ ts) zero h = let r : t.account +ℤ pos 0 ≡ pos 0 +ℤ t.account = omega (arith, ints) in r
 accounts_more (t ∷ ts) (suc i) h =
@@ -46,5 +46,5 @@ accounts_more (t ∷ ts) (suc i) h =
     subst (λ (n : ℕ). all_accounts (take n (t ∷ ts)) ≡ (t.account +ℤ all_accounts (take i ts)) +ℤ account_at ts i) e r
 
 pub accounts_none : all_accounts [] ≡ pos 0
-unfolding all_accounts
+unfolding signed_sum_by
 accounts_none = refl

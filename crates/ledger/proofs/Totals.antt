@@ -4,12 +4,12 @@ use Rattle.std.proofs.lemmas.Int.{ints}
 use Rattle.std.proofs.lemmas.List.Sums.{sum_by-cons}
 use Rattle.ledger.specs.declared.book.Trader.{Trader}
 use Rattle.rows.specs.declared.point.Point.{Point}
-use Rattle.ledger.specs.Accounts.{no_trader, account_at, metered_at, metered_sum, all_accounts, with_credit, with_shares, with_metered, settled_trader, unmetered_trader}
+use Rattle.ledger.specs.Accounts.{no_trader, account_at, metered_at, metered_sum, all_accounts, signed_sum_by, with_credit, with_shares, with_metered, settled_trader, unmetered_trader}
 use Rattle.rows.specs.Rows.{row_at}
 use Rattle.ledger.proofs.Traders.{sum-take-suc, length_credited_to}
 
 pub total_set : (ts : List Trader) (j : ℕ) (x : Trader) → j < length ts → all_accounts (set ts j x) +ℤ account_at ts j ≡ all_accounts ts +ℤ x.account
-unfolding all_accounts
+unfolding signed_sum_by
 total_set [] j x h = absurd (let q : ⊥ = omega arith in q)
 total_set (t ∷ ts) zero x h =
     let a = all_accounts ts in
@@ -21,13 +21,13 @@ total_set (t ∷ ts) (suc j) x h =
     r
 
 total_same : (ts : List Trader) (j : ℕ) (x : Trader) → x.account ≡ account_at ts j → all_accounts (set ts j x) ≡ all_accounts ts
-unfolding all_accounts
+unfolding signed_sum_by
 total_same [] j x e = refl
 total_same (t ∷ ts) zero x e = ap (λ (z : ℤ). z +ℤ all_accounts ts) e
 total_same (t ∷ ts) (suc j) x e = ap (λ (z : ℤ). t.account +ℤ z) (total_same ts j x e)
 
 pub total_new : (n : ℕ) → all_accounts (replicate n no_trader) ≡ pos 0
-unfolding all_accounts
+unfolding signed_sum_by
 total_new zero = refl
 total_new (suc n) = ap (λ (z : ℤ). pos 0 +ℤ z) (total_new n)
 
@@ -53,7 +53,7 @@ total_credited_to ts s shares n (suc k) own h =
     omega (arith, ints)
 
 pub total_settled : (ts : List Trader) → all_accounts (map settled_trader ts) ≡ all_accounts ts +ℤ pos (metered_sum ts)
-unfolding all_accounts
+unfolding signed_sum_by
 total_settled [] = refl
 total_settled (t ∷ ts) =
     let before = total_settled ts in
@@ -62,6 +62,6 @@ total_settled (t ∷ ts) =
     r
 
 pub total_unmetered : (ts : List Trader) → all_accounts (map unmetered_trader ts) ≡ all_accounts ts
-unfolding all_accounts
+unfolding signed_sum_by
 total_unmetered [] = refl
 total_unmetered (t ∷ ts) = ap (λ (z : ℤ). t.account +ℤ z) (total_unmetered ts)

@@ -156,11 +156,11 @@ abandonment l s day token =
 abbrev pub trader_fault : Book → ℕ → Option Refusal
 trader_fault l t = first_ground ((nat_le l.counts.traders t, NoSuchTrader) ∷ [])
 
-abbrev pub account_of : Book → ℕ → Result ℤ Refusal
-account_of l t = call_answer (trader_fault l t) (account_at l.traders t)
+abbrev pub account_answer : Book → ℕ → Result ℤ Refusal
+account_answer l t = call_answer (trader_fault l t) (account_at l.traders t)
 
-abbrev pub metered_of : Book → ℕ → Result ℕ Refusal
-metered_of l t = call_answer (trader_fault l t) (metered_at l.traders t)
+abbrev pub metered_answer : Book → ℕ → Result ℕ Refusal
+metered_answer l t = call_answer (trader_fault l t) (metered_at l.traders t)
 
 abbrev pub open_quantity_fault : Book → List Point → ℕ → Option Refusal
 open_quantity_fault l s t =
