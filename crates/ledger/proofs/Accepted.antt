@@ -1,5 +1,5 @@
 -- What is known of each call that is not refused.
-use Rattle.std.proofs.Common.{◌≡◌, ℕ, ◌+◌, ◌<◌, ◌≤◌, Bool, true, false, cond, ltb, leb, List, length, take, Some, None, Option, refl}
+use Rattle.std.proofs.Common.{◌≡◌, ℕ, ◌+◌, ◌<◌, ◌≤◌, Bool, true, false, cond, ◌||◌, ltb, leb, List, length, take, Some, None, Option, refl}
 use Rattle.std.proofs.lemmas.Bool.{not-false, ltb-false, leb-true, leb-false, and_parts, or_parts}
 use Rattle.refusals.specs.declared.Refusal.{Refusal}
 use Rattle.refusals.specs.declared.Refusal.TheVariants.{NoWeight}
@@ -59,14 +59,14 @@ day_opens l weather e =
     let a = no_ground _ _ _ e in
     let b = no_ground _ _ _ a.1 in
     let c = no_ground _ _ _ b.1 in
-    let d = or_parts (leb max_shared l.counts.shared) _ c.0 in
-    let f = or_parts (leb max_opened l.counts.opened) _ d.1 in
+    let d = or_parts (leb max_shared l.counts.shared || leb max_opened l.counts.opened) _ c.0 in
+    let f = or_parts (leb max_shared l.counts.shared) _ d.0 in
     record {
       in_range = not-false _ a.0;
       idle = not-false _ b.0;
-      shared = leb-false _ _ d.0;
-      opened = leb-false _ _ f.0;
-      calendar = ltb-false _ _ f.1;
+      shared = leb-false _ _ f.0;
+      opened = leb-false _ _ f.1;
+      calendar = ltb-false _ _ d.1;
     }
 
 pub record Enters (l : Book) (day : OpenDay) (t litres : ℕ) : Type 0 where

@@ -1,6 +1,6 @@
--- The law of the year: what holds after every list of calls on a new ledger and its own sheet, refused
--- calls included. Every quantity on its right-hand sides comes from the history, none from the
--- ledger's own fields.
+-- The law of the year: what holds after every list of calls on a new ledger and its own sheet,
+-- refused calls included. Every quantity on its right-hand sides comes from the history, none from
+-- the ledger's own fields.
 use Rattle.std.specs.Prelude.{◌≡◌, ℕ, ◌<◌, ◌≤◌, true, false, List, [], ◌∷◌, length, take, pos, ◌+ℤ◌, ◌-ℤ◌, slice_index}
 use Rattle.std.specs.List.{list_all}
 use Rattle.shares.specs.Fair.{Near}

@@ -85,7 +85,8 @@ scale_factor_of (Joined g ∷ c) j = cond (j == points_in c) g.scale_factor (sca
 scale_factor_of (ReadingBooked b ∷ c) j =
     let k = b.point in
     let consumption = consumption_at c k b.reading in
-    cond (j == k) (scale_factor_after (scale_factor_of c k) consumption (period_of c k)) (scale_factor_of c j)
+    let new = scale_factor_after (scale_factor_of c k) consumption (period_of c k) in
+    cond (j == k) new (scale_factor_of c j)
 scale_factor_of (e ∷ c) j = scale_factor_of c j
 
 -- the consumption of its booked readings

@@ -15,7 +15,8 @@ pub record MeteredEntry : Type 0 where
   pub trader : ℕ
   pub litres : ℕ
 
--- a day by its accepted calls: what its opening took, its entries, the inflow and the rate last taken
+-- a day by its accepted calls: what its opening took, its entries, the inflow and the rate last
+-- taken
 pub record Day : Type 0 where
   pub weather : Weather
   pub entries : List MeteredEntry

@@ -10,8 +10,8 @@ ghost use Rattle.year.specs.Law.{YearLaw};
 
 use ledger::{Ledger, Point};
 
-/// Where the litres are: the inflow of the days shared out lies in the loss, the traders' accounts and
-/// the correction account (docs/RULES.md).
+/// Where the litres are: the inflow of the days shared out lies in the loss, the traders' accounts
+/// and the correction account (docs/RULES.md).
 #[derive(Clone, Copy)]
 pub struct Balance {
     /// The inflow of the days shared out, in litres.
@@ -24,8 +24,8 @@ pub struct Balance {
     pub correction: i64,
 }
 
-/// The totals of a ledger. Whatever list of calls led to the ledger and this sheet, the law of the year
-/// holds of them, and the inflow is that of the days shared out.
+/// The totals of a ledger. Whatever list of calls led to the ledger and this sheet, the law of the
+/// year holds of them, and the inflow is that of the days shared out.
 pub fn totals(ledger: &Ledger, _sheet: &[Point]) -> Balance
     ensures loss { result.loss ≡ ledger.now.book.loss }
     ensures accounts { result.accounts ≡ all_accounts ledger.now.book.traders }
