@@ -1,5 +1,5 @@
 -- A flat-rate customer's litres, day by day.
-use Rattle.std.specs.Prelude.{◌≡◌, ℕ, ◌+◌, ◌-◌, ◌*◌, ◌/◌, ◌≤◌, true, if◌then◌else◌, List, map, sum_by, Ok, Err, Result, nat_le}
+use Rattle.std.specs.Prelude.{◌≡◌, ℕ, ◌+◌, ◌-◌, ◌*◌, ◌/◌, ◌≤◌, IsTrue, if◌then◌else◌, List, map, sum_by, Ok, Err, Result, nat_le}
 use Rattle.std.specs.List.{range_with_len}
 use Rattle.std.specs.Result.{result_unwrap_or}
 use Rattle.refusals.specs.declared.Refusal.{Refusal}
@@ -44,7 +44,7 @@ total_litres litres days = sum_by (λ date. result_unwrap_or (flat_rate_day litr
 abbrev pub SumsToMonth : ℕ → Date → Type 0
 SumsToMonth litres date =
     litres ≤ max_litres
-    → is_day date ≡ true
+    → IsTrue (is_day date)
     → total_litres litres (first_days date (days_in_month date)) ≡ litres
 
 -- No two days of a date's month differ by more than one litre.

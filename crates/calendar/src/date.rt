@@ -1,5 +1,5 @@
 //! A date and its day number, each found from the other.
-ghost use Rattle.std.specs.Prelude.{◌≡◌, ◌-◌, ◌≤◌, true, IfOk};
+ghost use Rattle.std.specs.Prelude.{◌≡◌, ◌-◌, ◌≤◌, IsTrue, IfOk};
 ghost use Rattle.calendar.specs.Days.{last_day, is_leap, year_index, month_index, is_day, days_before, day_number, IsDateOf, FindsDate};
 
 use super::months::Month;
@@ -31,7 +31,8 @@ impl Date {
     /// The month that the date names. `is_day` asks its length before it knows that there is such a
     /// day.
     pub(super) fn month_of_year(self) -> Month
-        requires { (2000 ≤ self.year) × ((1 ≤ self.month) × (self.month ≤ 12)) }
+        requires year { 2000 ≤ self.year }
+        requires month { (1 ≤ self.month) × (self.month ≤ 12) }
         ensures leap { result.leap ≡ is_leap (year_index self) }
         ensures index { result.index ≡ month_index self }
     {
@@ -52,7 +53,7 @@ impl Date {
 
     // The days from 1 January 2000 to this one.
     fn days_before(self) -> u32
-        requires { is_day self ≡ true }
+        requires { IsTrue (is_day self) }
         ensures { result ≡ days_before self }
     {
         days_before_year(u32::from(self.year - FIRST_YEAR))

@@ -14,5 +14,5 @@ date_of year month day = record { year = year; month = month; day = day }
 abbrev pub AnswersDate : ℕ → DateAnswer → Type 0
 AnswersDate number answer =
     (number ≤ last_day
-      → (answer.status ≡ 0) × IsDateOf (date_of answer.year answer.month answer.day) number)
+    → (answer.status ≡ 0) × IsDateOf (date_of answer.year answer.month answer.day) number)
     × (last_day < number → answer ≡ date_answer_of (Err NoSuchDay))

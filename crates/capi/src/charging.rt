@@ -1,8 +1,8 @@
 //! The charge and the fee of each charge rule (docs/CHARGES.md). Quantities are in MJ, 0 to
-//! 1,000,000,000,000, and rates in thousandths of a forint for each MJ, 0 to 1,000,000; where one is
-//! above its limit, the call is refused by 10. The C interface takes each number by itself.
+//! 1,000,000,000,000, and rates in thousandths of a forint for each MJ, 0 to 1,000,000; where one
+//! is above its limit, the call is refused by 10. The C interface takes each number by itself.
 ghost use Rattle.std.specs.Prelude.{◌≡◌, ◌*◌};
-ghost use Rattle.charges.specs.Quantity.{value_in_limits};
+ghost use Rattle.charges.specs.Quantity.{ok_or_energy, value_in_limits};
 ghost use Rattle.charges.specs.Nomination.{nomination_of, nomination_fits, nomination_charge};
 ghost use Rattle.charges.specs.Balance.{balance_of, balance_fits, balance_charge};
 ghost use Rattle.charges.specs.Offers.{offers_of};
@@ -23,13 +23,11 @@ fn offered_balance(
     negative: (u64, u64),
     positive: (u64, u64),
 ) -> Result<OfferedBalance, Refusal>
-    ensures {
-        let offered =
-            offered_balance_of (balance_of balance.0 balance.1)
-            (offers_of negative.0 negative.1) (offers_of positive.0 positive.1)
+    ensures { let offered =
+        offered_balance_of (balance_of balance.0 balance.1)
+        (offers_of negative.0 negative.1) (offers_of positive.0 positive.1)
         in
-        result ≡ value_in_limits (offered_balance_fits offered) offered
-    }
+        result ≡ value_in_limits offered_balance_fits offered }
 {
     Ok(OfferedBalance {
         balance: balance.try_into()?,
@@ -40,7 +38,7 @@ fn offered_balance(
 
 // The fee for a charge of any rule.
 fn fee<C: Charge>(rule: &C, rate: u64) -> Result<u64, Refusal>
-    ensures { result ≡ value_in_limits (rate_fits rate) (C.charge rule.now * rate) }
+    ensures { result ≡ ok_or_energy (rate_fits rate) (C.charge rule.now * rate) }
 {
     Ok(Tariff::new(rate)?.fee(rule))
 }
@@ -48,9 +46,8 @@ fn fee<C: Charge>(rule: &C, rate: u64) -> Result<u64, Refusal>
 /// The MJ to be charged on a nomination.
 #[unsafe(no_mangle)]
 pub extern "C" fn keldrava_nomination_charge(nominated: u64, actual: u64) -> Answer
-    ensures {
-        result ≡ charge_answer nomination_fits nomination_charge (nomination_of nominated actual)
-    }
+    ensures { let nomination = nomination_of nominated actual in
+        result ≡ charge_answer nomination_fits nomination_charge nomination }
 {
     Nomination::try_from((nominated, actual))
         .map(|nomination| nomination.charge())
@@ -60,9 +57,8 @@ pub extern "C" fn keldrava_nomination_charge(nominated: u64, actual: u64) -> Ans
 /// The fee for the charge on a nomination, in thousandths of a forint.
 #[unsafe(no_mangle)]
 pub extern "C" fn keldrava_nomination_fee(nominated: u64, actual: u64, rate: u64) -> Answer
-    ensures {
-        result ≡ fee_answer nomination_fits nomination_charge (nomination_of nominated actual) rate
-    }
+    ensures { let nomination = nomination_of nominated actual in
+        result ≡ fee_answer nomination_fits nomination_charge nomination rate }
 {
     Nomination::try_from((nominated, actual))
         .and_then(|nomination| fee(&nomination, rate))
@@ -72,9 +68,8 @@ pub extern "C" fn keldrava_nomination_fee(nominated: u64, actual: u64, rate: u64
 /// The MJ to be charged on a balance without offers.
 #[unsafe(no_mangle)]
 pub extern "C" fn keldrava_balance_charge(source: u64, consumption: u64) -> Answer
-    ensures {
-        result ≡ charge_answer balance_fits balance_charge (balance_of source consumption)
-    }
+    ensures { let balance = balance_of source consumption in
+        result ≡ charge_answer balance_fits balance_charge balance }
 {
     Balance::try_from((source, consumption))
         .map(|balance| balance.charge())
@@ -84,9 +79,8 @@ pub extern "C" fn keldrava_balance_charge(source: u64, consumption: u64) -> Answ
 /// The fee for the charge on a balance without offers, in thousandths of a forint.
 #[unsafe(no_mangle)]
 pub extern "C" fn keldrava_balance_fee(source: u64, consumption: u64, rate: u64) -> Answer
-    ensures {
-        result ≡ fee_answer balance_fits balance_charge (balance_of source consumption) rate
-    }
+    ensures { let balance = balance_of source consumption in
+        result ≡ fee_answer balance_fits balance_charge balance rate }
 {
     Balance::try_from((source, consumption))
         .and_then(|balance| fee(&balance, rate))
@@ -104,13 +98,11 @@ pub extern "C" fn keldrava_offered_balance_charge(
     positive_heg: u64,
     positive_hego: u64,
 ) -> Answer
-    ensures {
-        let offered =
-            offered_balance_of (balance_of source consumption)
-            (offers_of negative_heg negative_hego) (offers_of positive_heg positive_hego)
+    ensures { let offered =
+        offered_balance_of (balance_of source consumption)
+        (offers_of negative_heg negative_hego) (offers_of positive_heg positive_hego)
         in
-        result ≡ charge_answer offered_balance_fits offered_balance_charge offered
-    }
+        result ≡ charge_answer offered_balance_fits offered_balance_charge offered }
 {
     let negative = (negative_heg, negative_hego);
     let positive = (positive_heg, positive_hego);
@@ -130,13 +122,11 @@ pub extern "C" fn keldrava_offered_balance_fee(
     positive_hego: u64,
     rate: u64,
 ) -> Answer
-    ensures {
-        let offered =
-            offered_balance_of (balance_of source consumption)
-            (offers_of negative_heg negative_hego) (offers_of positive_heg positive_hego)
+    ensures { let offered =
+        offered_balance_of (balance_of source consumption)
+        (offers_of negative_heg negative_hego) (offers_of positive_heg positive_hego)
         in
-        result ≡ fee_answer offered_balance_fits offered_balance_charge offered rate
-    }
+        result ≡ fee_answer offered_balance_fits offered_balance_charge offered rate }
 {
     let negative = (negative_heg, negative_hego);
     let positive = (positive_heg, positive_hego);

@@ -1,5 +1,5 @@
 //! The calendar and the flat-rate day. The C interface takes each number of a date by itself.
-ghost use Rattle.std.specs.Prelude.{◌≡◌, false, MatchOption};
+ghost use Rattle.std.specs.Prelude.{◌≡◌, IsFalse, MatchOption};
 ghost use Rattle.calendar.specs.Days.{is_day, day_number, FindsDate};
 ghost use Rattle.calendar.specs.FlatRate.{flat_rate_day};
 ghost use Rattle.capi.specs.Answer.{answer_of};
@@ -12,11 +12,9 @@ use refusals::Refusal;
 
 // The date that three numbers write, unless one of them is too large for any date.
 fn date(year: u64, month: u64, day: u64) -> Option<Date>
-    ensures {
-        MatchOption result
-        (is_day (date_of year month day) ≡ false)
-        (λ date. date ≡ date_of year month day)
-    }
+    ensures { MatchOption result
+        (IsFalse (is_day (date_of year month day)))
+        (λ date. date ≡ date_of year month day) }
 {
     Some(Date {
         year: year.try_into().ok()?,

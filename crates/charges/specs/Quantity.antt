@@ -14,5 +14,9 @@ abbrev pub both_fit : ℕ → ℕ → Bool
 both_fit a b = fits a && fits b
 
 -- The value, where all numbers that it is made of are in their limits; else the refusal.
-abbrev pub value_in_limits : {A : Type 0} → Bool → A → Result A Refusal
-value_in_limits all_fit value = if all_fit then Ok value else Err Energy
+abbrev pub ok_or_energy : {A : Type 0} → Bool → A → Result A Refusal
+ok_or_energy all_fit value = if all_fit then Ok value else Err Energy
+
+-- The value itself, by the test of its own limits.
+abbrev pub value_in_limits : {A : Type 0} → (A → Bool) → A → Result A Refusal
+value_in_limits is_in_limits value = ok_or_energy (is_in_limits value) value

@@ -20,7 +20,7 @@ impl TryFrom<(u64, u64)> for Balance {
 
     type Error = Refusal;
 
-    ghost try_from_gives = { λ mj r. let b = balance_of mj.0 mj.1 in r ≡ value_in_limits (balance_fits b) b };
+    ghost try_from_gives = { λ p r. r ≡ value_in_limits balance_fits (balance_of p.0 p.1) };
 
     fn try_from(mj: (u64, u64)) -> Result<Balance, Refusal> {
         Ok(Balance {
@@ -77,7 +77,7 @@ impl TryFrom<(u64, u64)> for Offers {
 
     type Error = Refusal;
 
-    ghost try_from_gives = { λ mj r. let o = offers_of mj.0 mj.1 in r ≡ value_in_limits (offers_fit o) o };
+    ghost try_from_gives = { λ p r. r ≡ value_in_limits offers_fit (offers_of p.0 p.1) };
 
     fn try_from(mj: (u64, u64)) -> Result<Offers, Refusal> {
         Ok(Offers {

@@ -29,7 +29,7 @@ impl Model for Megajoules {
 impl TryFrom<u64> for Megajoules {
     type Error = Refusal;
 
-    ghost try_from_gives = { λ mj r. r ≡ value_in_limits (fits mj) mj };
+    ghost try_from_gives = { λ mj r. r ≡ value_in_limits fits mj };
 
     fn try_from(mj: u64) -> Result<Megajoules, Refusal> {
         Ok(Megajoules(at_most(MAX_MJ, mj)?))
@@ -39,7 +39,7 @@ impl TryFrom<u64> for Megajoules {
 impl Megajoules {
     /// A quantity of so many MJ. More than 1,000,000,000,000 are refused by 10.
     pub fn new(mj: u64) -> Result<Megajoules, Refusal>
-        ensures { result ≡ value_in_limits (fits mj) mj }
+        ensures { result ≡ value_in_limits fits mj }
     {
         mj.try_into()
     }

@@ -20,7 +20,7 @@ impl TryFrom<(u64, u64)> for Nomination {
 
     type Error = Refusal;
 
-    ghost try_from_gives = { λ mj r. let n = nomination_of mj.0 mj.1 in r ≡ value_in_limits (nomination_fits n) n };
+    ghost try_from_gives = { λ p r. r ≡ value_in_limits nomination_fits (nomination_of p.0 p.1) };
 
     fn try_from(mj: (u64, u64)) -> Result<Nomination, Refusal> {
         Ok(Nomination {

@@ -1,5 +1,5 @@
 //! What a tolerance rule and a charge rule are.
-ghost use Rattle.std.specs.Prelude.{◌≡◌, ℕ, ◌-◌, ◌≤◌, Bool, true, nat_le};
+ghost use Rattle.std.specs.Prelude.{◌≡◌, ℕ, ◌-◌, ◌≤◌, ◌↔◌, Bool, IsTrue, nat_le};
 ghost use Rattle.charges.specs.Quantity.{max_mj};
 ghost use Rattle.charges.specs.Tolerance.{tolerance};
 
@@ -39,7 +39,7 @@ pub trait Tolerance {
     }
 
     // A rule's own meaning of inside is a deviation of at most its allowance.
-    ghost is_inside_by_allowance: { (rule : Self) → is_inside rule ≡ nat_le (deviation rule) (allowance rule) };
+    ghost is_inside_by_allowance: { (r : Self) → is_inside r ≡ nat_le (deviation r) (allowance r) };
 }
 
 /// A tolerance rule that also gives the MJ to be charged: none exactly where the deviation is
@@ -50,8 +50,7 @@ pub trait Charge: Tolerance {
     /// The MJ to be charged, 0 to 1,000,000,000,000.
     fn charge(&self) -> u64
         ensures value { result ≡ charge self.now }
-        ensures none_inside { Self.is_inside self.now ≡ true → result ≡ 0 }
-        ensures inside_at_none { result ≡ 0 → Self.is_inside self.now ≡ true }
+        ensures none_inside { (result ≡ 0) ↔ IsTrue (Self.is_inside self.now) }
         ensures at_most { result ≤ Self.deviation self.now }
         ensures bound { result ≤ max_mj }
     {
@@ -59,5 +58,5 @@ pub trait Charge: Tolerance {
     }
 
     // A rule's own meaning of the charge is the deviation beyond its allowance.
-    ghost charge_beyond_allowance: { (rule : Self) → charge rule ≡ Self.deviation rule - Self.allowance rule };
+    ghost charge_beyond_allowance: { (r : Self) → charge r ≡ Self.deviation r - Self.allowance r };
 }

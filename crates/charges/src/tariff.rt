@@ -1,7 +1,7 @@
 //! A tariff: its rate, and how often that was set.
-ghost use Rattle.std.specs.Prelude.{◌≡◌, ◌*◌, ◌<◌, ◌≤◌, true, IfOk, IfErr, OnOk, OnErr};
+ghost use Rattle.std.specs.Prelude.{◌≡◌, ◌*◌, ◌<◌, ◌≤◌, IsTrue, IfOk, IfErr, OnOk, OnErr};
 ghost use Rattle.refusals.specs.declared.Refusal.TheVariants.{Energy};
-ghost use Rattle.charges.specs.Quantity.{max_mj, value_in_limits};
+ghost use Rattle.charges.specs.Quantity.{max_mj, ok_or_energy};
 ghost use Rattle.charges.specs.Tariff.{max_rate, rate_fits, next_count};
 
 use super::limit::at_most;
@@ -50,7 +50,7 @@ impl Tariff {
 
     /// Sets the rate, also to what it is, and counts it. A rate above 1,000,000 is refused by 10.
     pub fn set_rate(&mut self, rate: u64) -> Result<(), Refusal>
-        ensures answer { result ≡ value_in_limits (rate_fits rate) tt }
+        ensures answer { result ≡ ok_or_energy (rate_fits rate) tt }
         ensures ok { OnOk result
             ((self.new.rate ≡ rate) × (self.new.settings ≡ next_count self.old.settings)) }
         ensures err { OnErr result (self.new ≡ self.old) }
@@ -65,7 +65,7 @@ impl Tariff {
     /// The fee for a charge of any rule, in thousandths of a forint: the MJ charged times the rate.
     pub fn fee<C: Charge>(&self, rule: &C) -> u64
         ensures value { result ≡ C.charge rule.now * self.now.rate }
-        ensures none_inside { C.is_inside rule.now ≡ true → result ≡ 0 }
+        ensures none_inside { IsTrue (C.is_inside rule.now) → result ≡ 0 }
         ensures bound { result ≤ max_mj * max_rate }
     {
         rule.charge() * self.rate

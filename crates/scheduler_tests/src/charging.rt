@@ -1,5 +1,5 @@
-//! The charges: each rule at, just inside and just past its tolerance and its offers, at 0 and at the
-//! limit; fee and tariff.
+//! The charges: each rule at, just inside and just past its tolerance and its offers, at 0 and at
+//! the limit; fee and tariff.
 use charges::balance::{Balance, OfferedBalance};
 use charges::megajoules::Megajoules;
 use charges::nomination::Nomination;
@@ -53,8 +53,8 @@ const BALANCES: [(u64, u64, u64); 13] = [
 // Source, consumption, negative and positive offers, each as HEG and HEGO, and the MJ charged.
 type Offered = (u64, u64, (u64, u64), (u64, u64), u64);
 
-// A surplus of 1,000, of which 200 are tolerated; the offers lie below, just below, at and above it,
-// or below the tolerance.
+// A surplus of 1,000, of which 200 are tolerated; the offers lie below, just below, at and above
+// it, or below the tolerance.
 const SURPLUSES: [Offered; 8] = [
     (10_000, 9000, (400, 300), (0, 0), 300),
     (10_000, 9000, (600, 399), (0, 0), 1),

@@ -1,5 +1,5 @@
-//! The calendar: each month's ends in a common and a leap year, the ends of the range, and flat-rate
-//! days.
+//! The calendar: each month's ends in a common and a leap year, the ends of the range, and
+//! flat-rate days.
 use calendar::date::Date;
 use calendar::flat_rate::flat_rate_day;
 use refusals::Refusal;
@@ -116,7 +116,10 @@ fn flat_rate_days(rt: HostRuntime) {
 
 #[test]
 fn flat_rate_months_sum(rt: HostRuntime) {
-    assert_eq!(rt; month_sum(1_000_000_000, date(2001, 2, 1)), Ok(1_000_000_000));
+    assert_eq!(rt;
+        month_sum(1_000_000_000, date(2001, 2, 1)),
+        Ok(1_000_000_000)
+    );
     assert_eq!(rt; month_sum(999_999_999, date(2004, 2, 1)), Ok(999_999_999));
     assert_eq!(rt; month_sum(30, date(2009, 10, 1)), Ok(30));
     assert_eq!(rt; month_sum(0, date(2009, 10, 1)), Ok(0));
