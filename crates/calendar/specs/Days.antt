@@ -4,7 +4,7 @@ use Rattle.refusals.specs.declared.Refusal.{Refusal}
 use Rattle.refusals.specs.declared.Refusal.TheVariants.{NoSuchDay}
 use Rattle.calendar.specs.declared.date.Date.{Date}
 
--- the number of 31 December 2099
+-- The number of 31 December 2099.
 abbrev pub last_day : ℕ
 last_day = 36_524
 
@@ -12,9 +12,11 @@ last_day = 36_524
 abbrev pub is_leap : ℕ → Bool
 is_leap year = year % 4 == 0
 
+-- The days of a leap or a common year.
 abbrev pub year_length : Bool → ℕ
 year_length leap = if leap then 366 else 365
 
+-- The days of February in such a year.
 abbrev pub february_length : Bool → ℕ
 february_length leap = if leap then 29 else 28
 
@@ -71,7 +73,7 @@ pub record IsDateOf (date : Date) (n : ℕ) : Type 0 where
   pub number : day_number date ≡ Ok n
   pub only : (other : Date) → day_number other ≡ Ok n → other ≡ date
 
--- The date that has the number, which is a day's; or the refusal of a number past the last day.
+-- The one date that has the number; or, of a number past the last day, the refusal.
 abbrev pub FindsDate : ℕ → Result Date Refusal → Type 0
 FindsDate number result =
     MatchResult result

@@ -7,7 +7,7 @@ use Rattle.refusals.specs.declared.Refusal.TheVariants.{Litres, NoSuchDay}
 use Rattle.calendar.specs.Days.{is_day, days_in_month}
 use Rattle.calendar.specs.declared.date.Date.{Date}
 
--- of the litres of one month
+-- The most litres of one month.
 abbrev pub max_litres : ℕ
 max_litres = 1_000_000_000
 

@@ -28,8 +28,7 @@ pub struct Date {
 }
 
 impl Date {
-    /// The month that the date names. `is_day` asks its length before it knows that there is such a
-    /// day.
+    /// The month that the date names, whether or not it has the date's day.
     pub(super) fn month_of_year(self) -> Month
         requires year { 2000 ≤ self.year }
         requires month { (1 ≤ self.month) × (self.month ≤ 12) }

@@ -5,7 +5,7 @@ use Rattle.charges.specs.Quantity.{both_fit}
 use Rattle.charges.specs.Tolerance.{tolerance}
 use Rattle.charges.specs.declared.balance.Balance.{Balance}
 
--- of the MJ of the source and the MJ consumed
+-- The balance of two numbers of MJ: what the source gave, then what was consumed.
 abbrev pub balance_of : ℕ → ℕ → Balance
 balance_of source consumption = record { source = source; consumption = consumption }
 
@@ -13,7 +13,7 @@ balance_of source consumption = record { source = source; consumption = consumpt
 abbrev pub balance_fits : Balance → Bool
 balance_fits b = both_fit b.source b.consumption
 
--- The source is not below the consumption; else the balance is a deficit.
+-- The source is not below the consumption.
 abbrev pub is_surplus : Balance → Bool
 is_surplus b = nat_le b.consumption b.source
 

@@ -6,7 +6,7 @@ use Rattle.charges.specs.Quantity.{both_fit}
 use Rattle.charges.specs.Tolerance.{tolerance}
 use Rattle.charges.specs.declared.nomination.Nomination.{Nomination}
 
--- of the MJ nominated and the MJ drawn
+-- The nomination of two numbers of MJ: nominated, then drawn.
 abbrev pub nomination_of : ℕ → ℕ → Nomination
 nomination_of nominated actual = record { nominated = nominated; actual = actual }
 

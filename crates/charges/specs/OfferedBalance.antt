@@ -1,5 +1,5 @@
--- The charge on a balance with offers: a deviation is inside the tolerance, or covered by the
--- offers; beyond both, the larger of the two goes off.
+-- The charge on a balance with offers: a deviation is inside where it is at most the tolerance or
+-- at most the offers; beyond both it is charged, less the larger of the two.
 use Rattle.std.specs.Prelude.{ℕ, ◌-◌, max, Bool, if◌then◌else◌, ◌&&◌, ◌||◌, nat_le}
 use Rattle.charges.specs.Balance.{balance_fits, is_surplus, balance_deviation, balance_tolerance, is_balance_inside}
 use Rattle.charges.specs.Offers.{offers_fit, total}
@@ -7,7 +7,7 @@ use Rattle.charges.specs.declared.balance.Balance.{Balance}
 use Rattle.charges.specs.declared.balance.Offers.{Offers}
 use Rattle.charges.specs.declared.balance.OfferedBalance.{OfferedBalance}
 
--- of a balance, its negative and its positive offers
+-- A balance with its negative, then its positive offers.
 abbrev pub offered_balance_of : Balance → Offers → Offers → OfferedBalance
 offered_balance_of balance negative positive =
     record { balance = balance; negative = negative; positive = positive }

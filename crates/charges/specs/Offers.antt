@@ -3,7 +3,7 @@ use Rattle.std.specs.Prelude.{ℕ, ◌+◌, Bool}
 use Rattle.charges.specs.Quantity.{both_fit}
 use Rattle.charges.specs.declared.balance.Offers.{Offers}
 
--- of the MJ of HEG and the MJ of HEGO
+-- The offers of two numbers of MJ: HEG, then HEGO.
 abbrev pub offers_of : ℕ → ℕ → Offers
 offers_of heg hego = record { heg = heg; hego = hego }
 

@@ -1,7 +1,7 @@
 -- A tariff's rate, and the count of its settings.
 use Rattle.std.specs.Prelude.{ℕ, ◌+◌, min, Bool, nat_le}
 
--- in thousandths of a forint for each MJ
+-- The highest rate, in thousandths of a forint for each MJ.
 abbrev pub max_rate : ℕ
 max_rate = 1_000_000
 
