@@ -14,7 +14,7 @@ use Rattle.journal.specs.declared.kind.Shape.{Shape}
 use Rattle.journal.specs.declared.kind.Shape.TheVariants as shaped
 use Rattle.journal.specs.Words.{of_file, of_name}
 use Rattle.journal.specs.Numbers.{number_of, made, numbers_of, word_in, tenths_of}
-use Rattle.journal.specs.Vocabulary.{kind_in, shape_in, rule_in}
+use Rattle.journal.specs.Vocabulary.{kind_by_word, shape_by_word, rule_by_word}
 
 -- a call, with its names as text
 pub data Said : Type 0 where
@@ -95,7 +95,7 @@ shaped_of shaped.Season name ws =
 abbrev pub profile_of : List (List ℕ) → Result Said Fault
 profile_of ws =
     cond (nat_le 2 (length ws))
-    (made (word_in of_name NotName (at ws 0)) (λ _. some (Form of.Profile) (shape_in (at ws 1)) (λ s. shaped_of s (at ws 0) (drop 2 ws))))
+    (made (word_in of_name NotName (at ws 0)) (λ _. some (Form of.Profile) (shape_by_word (at ws 1)) (λ s. shaped_of s (at ws 0) (drop 2 ws))))
     (Err (Form of.Profile))
 
 abbrev pub trader_of : List (List ℕ) → Result Said Fault
@@ -115,7 +115,7 @@ form_of of.Open ws =
     sized of.Open 2 ws (some NotTemperature (result_ok (tenths_of (at ws 0))) (λ t. made (number_of 255 (at ws 1)) (λ s. Ok (opens t s))))
 form_of of.Enter ws = made (numbers_of of.Enter (max32 ∷ max64 ∷ []) ws) (λ ns. Ok (enter (slice_index ns 0) (slice_index ns 1)))
 form_of of.Inflow ws = made (numbers_of of.Inflow (max64 ∷ max32 ∷ []) ws) (λ ns. Ok (inflow (slice_index ns 0) (slice_index ns 1)))
-form_of of.Share ws = sized of.Share 2 ws (some NotRule (rule_in (at ws 1)) (λ r. Ok (share (at ws 0) r)))
+form_of of.Share ws = sized of.Share 2 ws (some NotRule (rule_by_word (at ws 1)) (λ r. Ok (share (at ws 0) r)))
 form_of of.Abandon ws = sized of.Abandon 0 ws (Ok abandon)
 form_of of.Quantity ws = made (numbers_of of.Quantity (max32 ∷ []) ws) (λ ns. Ok (quantity (slice_index ns 0)))
 form_of of.Read ws = made (numbers_of of.Read (max32 ∷ max32 ∷ []) ws) (λ ns. Ok (read (slice_index ns 0) (slice_index ns 1)))
@@ -126,4 +126,4 @@ form_of of.Withdraw ws = made (numbers_of of.Withdraw (max32 ∷ []) ws) (λ ns.
 -- the call that the words of a line say: none where there are no words
 abbrev pub call_of : List (List ℕ) → Result (Option Said) Fault
 call_of ws =
-    cond (length ws == 0) (Ok None) (some UnknownCall (kind_in (at ws 0)) (λ k. made (form_of k (drop 1 ws)) (λ s. Ok (Some s))))
+    cond (length ws == 0) (Ok None) (some UnknownCall (kind_by_word (at ws 0)) (λ k. made (form_of k (drop 1 ws)) (λ s. Ok (Some s))))

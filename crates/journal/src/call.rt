@@ -8,7 +8,6 @@ ghost use Rattle.journal.specs.declared.kind.Kind.TheVariants as of;
 ghost use Rattle.journal.specs.declared.kind.Shape.TheVariants as shaped;
 
 use crate::fault::Fault;
-use crate::kind;
 use crate::kind::{Kind, Rule, Shape, is_word};
 use crate::number::{read, tenths};
 use crate::words::{is_file, is_name};
@@ -164,7 +163,7 @@ fn profile<'a>(args: &[&'a [u8]]) -> Result<Call<'a>, Fault>
     if !is_name(name) {
         return Err(Fault::NotName);
     }
-    let shape = kind::read(shape).ok_or(Fault::Form(Kind::Profile))?;
+    let shape = Shape::from_word(shape).ok_or(Fault::Form(Kind::Profile))?;
     shaped(shape, name, rest)
 }
 
@@ -199,7 +198,7 @@ fn share<'a>(args: &[&'a [u8]]) -> Result<Call<'a>, Fault>
     let [profile, rule] = args else {
         return Err(Fault::Form(Kind::Share));
     };
-    let rule = kind::read(rule).ok_or(Fault::NotRule)?;
+    let rule = Rule::from_word(rule).ok_or(Fault::NotRule)?;
     Ok(Call::Share { profile, rule })
 }
 
@@ -272,7 +271,7 @@ pub fn parse<'a>(words: &[&'a [u8]]) -> Result<Option<Call<'a>>, Fault>
     let [first, args @ ..] = words else {
         return Ok(None);
     };
-    let kind = kind::read(first).ok_or(Fault::UnknownCall)?;
+    let kind = Kind::from_word(first).ok_or(Fault::UnknownCall)?;
     let call = formed(kind, args)?;
     Ok(Some(call))
 }

@@ -6,4 +6,5 @@ pub mod fault;
 pub mod kind;
 pub mod lines;
 pub mod number;
+pub mod table;
 pub mod words;
