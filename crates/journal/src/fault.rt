@@ -1,12 +1,14 @@
-// Why a line is malformed.
+//! Why a line is malformed.
 use crate::kind::Kind;
 use thiserror::Error;
 
+/// Why a line is no call, as docs/JOURNAL.md has it ("Malformed lines"). A fault is no refusal of
+/// the ledger: it has no number, and the run ends there.
 #[derive(Clone, Copy, PartialEq, Eq, Debug, Error)]
 pub enum Fault {
     #[error("no such call; `station --help` lists them")]
     UnknownCall,
-    // the call is known, and its words are not as it has them
+    /// The call is known, and its words are not as it has them.
     #[error("the call is written: {}", .0.row())]
     Form(Kind),
     #[error("not a number: the digits 0 to 9 and nothing else")]

@@ -3,7 +3,7 @@ ghost use Rattle.std.specs.Prelude.{◌≡◌, ℕ, List, Some};
 ghost use Rattle.std.specs.Str.{bytes_eq};
 ghost use Rattle.journal.specs.Vocabulary.{item_by_word, kind_by_word, kind_word, rule_by_word, rule_word, shape_by_word, shape_word};
 
-use crate::table::{CALLS, Row};
+use crate::table::{CALLS, Row, calls};
 
 /// A call of the journal, which the first word of its line names. The order is that of the table.
 #[derive(Clone, Copy, PartialEq, Eq, Debug)]
@@ -42,6 +42,7 @@ pub enum Rule {
 
 /// What goes by a fixed word of the journal.
 pub trait Worded: Copy + 'static {
+    // the word's bytes
     ghost word_of: { Self → List ℕ };
 
     /// The fixed word.
@@ -63,7 +64,7 @@ impl Kind {
         ensures value { result ≡ kind_by_word word.now }
         ensures own { (kind : Kind) → word.now ≡ kind_word kind → result ≡ Some kind }
     {
-        let row = find(&CALLS, word)?;
+        let row = find(calls(), word)?;
         Some(row.kind)
     }
 }

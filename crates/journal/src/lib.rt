@@ -1,4 +1,5 @@
-// The text of a journal: lines, words, numbers and the calls that they say.
+//! The text of a journal, as docs/JOURNAL.md has it: lines, words, numbers, and the calls that they
+//! say.
 #![tactic(auto)]
 
 pub mod call;

@@ -1,5 +1,8 @@
-//! The table of calls: a row a call, in the order of `station --help`. Whatever reads or lists calls
-//! reads it: the reader of lines, the reason of a fault, and `--help`.
+//! The table of calls: a row a call, in the order of `station --help`. The reader of lines, the
+//! reason of a fault and `--help` all read it.
+ghost use Rattle.std.specs.Prelude.{◌≡◌, map};
+ghost use Rattle.journal.specs.Vocabulary.{kind_word, kinds};
+
 use crate::kind::{Kind, Worded};
 use std::fmt;
 
@@ -24,8 +27,7 @@ pub struct Row {
     pub forms: &'static [Form],
 }
 
-/// The calls of a journal.
-pub const CALLS: [Row; 15] = [
+pub(crate) static CALLS: [Row; 15] = [
     Row {
         kind: Kind::Ledger,
         word: "ledger",
@@ -163,6 +165,14 @@ pub const CALLS: [Row; 15] = [
         }],
     },
 ];
+
+/// The table: a row for each call.
+pub fn calls() -> &'static [Row]
+    ensures kinds { map (λ row. row.kind) result.now ≡ kinds }
+    ensures words { map (λ row. row.word.now) result.now ≡ map kind_word kinds }
+{
+    &CALLS
+}
 
 impl Worded for Row {
     ghost word_of = { λ row. row.word.now };

@@ -1,8 +1,9 @@
 //! What `station --help` prints.
-use journal::table::CALLS;
+use journal::table::calls;
 use std::fmt;
 
-/// The text of `station --help`: its list of calls is the journal's table.
+/// The text of `station --help`. Its list of calls is the journal's table.
+#[derive(Clone, Copy)]
 pub struct Help;
 
 const HEAD: &str = "station: plays a journal of calls on a gas station's ledger
@@ -24,7 +25,7 @@ docs/JOURNAL.md has the whole format, and examples/ a journal to start from.
 impl fmt::Display for Help {
     fn fmt<W: fmt::Write>(&self, f: &mut fmt::Formatter<W>) -> fmt::Result {
         f.write_str(HEAD)?;
-        for form in CALLS.iter().flat_map(|row| row.forms) {
+        for form in calls().iter().flat_map(|row| row.forms) {
             match form.note {
                 Some(note) => writeln!(f, "    {:<52}{note}", form.text)?,
                 None => writeln!(f, "    {}", form.text)?,
@@ -35,5 +36,5 @@ impl fmt::Display for Help {
 }
 
 /// What is printed where the journal's file is not there, before its path.
-pub const MAKE_ONE: &str =
-    "A journal is a plain text file, one call a line. To make one: printf 'ledger 3561\\ntrader north\\n'";
+pub const MAKE_ONE: &str = "A journal is a plain text file, one call a line. To make one: \
+    printf 'ledger 3561\\ntrader north\\n'";
