@@ -1,10 +1,10 @@
 -- Two numbers, each as a value of its place's own type.
-use Rattle.std.proofs.Common.{◌≡◌, ◌≢◌, ℕ, ◌+◌, ◌^◌, ◌<◌, List, [], ◌∷◌, length, get_or, pos, unsigned_abs, Ok, Err, Result, refl, sym, ap, ◌∙◌, Bool, Bor, arith, cond, ne_eqb}
+use Rattle.std.proofs.Common.{◌≡◌, ◌≢◌, ℕ, ◌+◌, ◌^◌, ◌<◌, List, [], ◌∷◌, length, get_or, pos, unsigned_abs, Ok, Err, Result, refl, sym, ap, subst, ◌∙◌, Bool, Bor, arith, cond, ne_eqb}
 use Rattle.std.specs.Int.{FitsUnsignedBits}
 use Rattle.std.specs.List.{slice_index}
 use Rattle.std.specs.Result.{OkIff, IsOkAnd, MatchResult}
 use Rattle.std.specs.declared.num.TryFromIntError.{TryFromIntError}
-use Rattle.journal.specs.Calls.{PlainCall, plain_result, plain_call}
+use Rattle.journal.specs.Calls.{PlainCall, kind_call, plain_call, plain_result, two_number_call}
 use Rattle.journal.specs.declared.call.Call.{Call}
 use Rattle.journal.specs.declared.fault.Fault.{Fault}
 use Rattle.journal.specs.declared.fault.Fault.TheVariants.{Form}
@@ -70,3 +70,11 @@ plain_result-pair P said_of (Ok ns) (Err e) q is by says = absurd (let z : ⊥ =
 plain_result-pair P said_of (Err f) (Ok x) q is by says = absurd (let z : ⊥ = cc in z)
 plain_result-pair P said_of (Err f) (Err e) q is by says = ap plain_result by
     ∙ (let same : e ≡ f = cc in ap (λ (g : Fault). Err g) same)
+
+-- what a call of two numbers says, at a kind that is known by an equation
+pub two_number_call-kind_call :
+    (k own : Kind) (limit more : ℕ) (f : ℕ → ℕ → PlainCall) (ws : List (List ℕ)) → k ≡ own →
+    two_number_call own limit more f ws ≡ kind_call own ws →
+    two_number_call k limit more f ws ≡ kind_call k ws
+two_number_call-kind_call k own limit more f ws is at_own =
+    subst (λ (kind : Kind). two_number_call kind limit more f ws ≡ kind_call kind ws) (sym is) at_own

@@ -15,7 +15,8 @@ option_map-item_by_word f v w [] word same = refl
 option_map-item_by_word {X} {Y} f v w (x ∷ xs) word same =
     let here : v x ≡ w (f x) = cc in
     let behind : map v xs ≡ map w (map f xs) = cc in
-    ap (λ (s : List ℕ). option_map f (cond (bytes_eq word s) (Some x) (item_by_word v xs word))) here
+    ap (λ (s : List ℕ). option_map f (cond (bytes_eq word s) (Some x) (item_by_word v xs word)))
+    here
     ∙ by (bytes_eq word (w (f x))) (item_by_word v xs word) (item_by_word w (map f xs) word)
     (option_map-item_by_word f v w xs word behind)
   where

@@ -80,15 +80,26 @@ max32 = 4294967295
 abbrev pub max64 : ℕ
 max64 = 18446744073709551615
 
+-- a call of one number of 32 bits
+abbrev pub one_number_call : Kind → (ℕ → PlainCall) → List (List ℕ) → Result PlainCall Fault
+one_number_call k f ws =
+    and_then (numbers_of k (max32 ∷ []) ws) (λ ns.
+    Ok (f (slice_index ns 0)))
+
+-- a call of two numbers, each within its own limit
+abbrev pub two_number_call :
+    Kind → (limit more : ℕ) → (ℕ → ℕ → PlainCall) → List (List ℕ) → Result PlainCall Fault
+two_number_call k limit more f ws =
+    and_then (numbers_of k (limit ∷ more ∷ []) ws) (λ ns.
+    Ok (f (slice_index ns 0) (slice_index ns 1)))
+
 -- what the words behind `profile NAME table`, `profile NAME even` and `profile NAME season` say
 abbrev pub shape_call : Shape → List ℕ → List (List ℕ) → Result PlainCall Fault
 shape_call shaped.Table name ws =
     result_for_count of.Profile 1 ws
     (and_then (word_check is_file_byte NotFile (word_at ws 0)) (λ _.
     Ok (table name (word_at ws 0))))
-shape_call shaped.Even name ws =
-    and_then (numbers_of of.Profile (max32 ∷ []) ws) (λ ns.
-    Ok (even name (slice_index ns 0)))
+shape_call shaped.Even name ws = one_number_call of.Profile (even name) ws
 shape_call shaped.Season name ws =
     result_for_count of.Profile 4 ws
     (and_then (number_of max32 (word_at ws 0)) (λ s.
@@ -115,10 +126,8 @@ trader_call ws =
 
 -- what the words behind a call's first say
 abbrev pub kind_call : Kind → List (List ℕ) → Result PlainCall Fault
-kind_call of.Ledger ws =
-    and_then (numbers_of of.Ledger (max32 ∷ []) ws) (λ ns. Ok (ledger (slice_index ns 0)))
-kind_call of.Sheet ws =
-    and_then (numbers_of of.Sheet (max32 ∷ []) ws) (λ ns. Ok (sheet (slice_index ns 0)))
+kind_call of.Ledger ws = one_number_call of.Ledger ledger ws
+kind_call of.Sheet ws = one_number_call of.Sheet sheet ws
 kind_call of.Profile ws = profile_call ws
 kind_call of.Trader ws = trader_call ws
 kind_call of.Point ws =
@@ -130,29 +139,18 @@ kind_call of.Open ws =
     (and_then (ok_or (result_ok (tenths_of (word_at ws 0))) NotTemperature) (λ t.
     and_then (number_of 255 (word_at ws 1)) (λ s.
     Ok (opens t s))))
-kind_call of.Enter ws =
-    and_then (numbers_of of.Enter (max32 ∷ max64 ∷ []) ws) (λ ns.
-    Ok (enter (slice_index ns 0) (slice_index ns 1)))
-kind_call of.Inflow ws =
-    and_then (numbers_of of.Inflow (max64 ∷ max32 ∷ []) ws) (λ ns.
-    Ok (inflow (slice_index ns 0) (slice_index ns 1)))
+kind_call of.Enter ws = two_number_call of.Enter max32 max64 enter ws
+kind_call of.Inflow ws = two_number_call of.Inflow max64 max32 inflow ws
 kind_call of.Share ws =
     result_for_count of.Share 2 ws
     (and_then (ok_or (rule_by_word (word_at ws 1)) NotRule) (λ r.
     Ok (share (word_at ws 0) r)))
 kind_call of.Abandon ws = result_for_count of.Abandon 0 ws (Ok abandon)
-kind_call of.Read ws =
-    and_then (numbers_of of.Read (max32 ∷ max32 ∷ []) ws) (λ ns.
-    Ok (read (slice_index ns 0) (slice_index ns 1)))
-kind_call of.Book ws =
-    and_then (numbers_of of.Book (max32 ∷ []) ws) (λ ns. Ok (book (slice_index ns 0)))
-kind_call of.HandOver ws =
-    and_then (numbers_of of.HandOver (max32 ∷ max32 ∷ []) ws) (λ ns.
-    Ok (hand_over (slice_index ns 0) (slice_index ns 1)))
-kind_call of.Withdraw ws =
-    and_then (numbers_of of.Withdraw (max32 ∷ []) ws) (λ ns. Ok (withdraw (slice_index ns 0)))
-kind_call of.Quantity ws =
-    and_then (numbers_of of.Quantity (max32 ∷ []) ws) (λ ns. Ok (quantity (slice_index ns 0)))
+kind_call of.Read ws = two_number_call of.Read max32 max32 read ws
+kind_call of.Book ws = one_number_call of.Book book ws
+kind_call of.HandOver ws = two_number_call of.HandOver max32 max32 hand_over ws
+kind_call of.Withdraw ws = one_number_call of.Withdraw withdraw ws
+kind_call of.Quantity ws = one_number_call of.Quantity quantity ws
 
 -- the call that the words of a line say: none where there are no words
 abbrev pub call_of : List (List ℕ) → Result (Option PlainCall) Fault

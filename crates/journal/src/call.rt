@@ -140,7 +140,7 @@ where
 }
 
 // What the words behind `profile NAME table`, `profile NAME even` and `profile NAME season` say.
-fn shaped<'a>(shape: Shape, name: &'a [u8], args: &[&'a [u8]]) -> Result<Call<'a>, Fault>
+fn read_shape<'a>(shape: Shape, name: &'a [u8], args: &[&'a [u8]]) -> Result<Call<'a>, Fault>
     ensures { plain_result result ≡ shape_call shape name.now (texts_of args.now) }
 {
     match shape {
@@ -191,7 +191,7 @@ fn profile<'a>(args: &[&'a [u8]]) -> Result<Call<'a>, Fault>
         return Err(Fault::NotName);
     }
     let shape = Shape::from_word(shape).ok_or(Fault::Form(Kind::Profile))?;
-    shaped(shape, name, rest)
+    read_shape(shape, name, rest)
 }
 
 fn trader<'a>(args: &[&'a [u8]]) -> Result<Call<'a>, Fault>
@@ -269,7 +269,7 @@ fn one(kind: Kind, args: &[&[u8]]) -> Result<u32, Fault>
 }
 
 // What the words behind a call's first say.
-fn formed<'a>(kind: Kind, args: &[&'a [u8]]) -> Result<Call<'a>, Fault>
+fn read_call<'a>(kind: Kind, args: &[&'a [u8]]) -> Result<Call<'a>, Fault>
     ensures { plain_result result ≡ kind_call kind (texts_of args.now) }
 {
     match kind {
@@ -300,6 +300,6 @@ pub fn parse<'a>(words: &[&'a [u8]]) -> Result<Option<Call<'a>>, Fault>
         return Ok(None);
     };
     let kind = Kind::from_word(first).ok_or(Fault::UnknownCall)?;
-    let call = formed(kind, args)?;
+    let call = read_call(kind, args)?;
     Ok(Some(call))
 }

@@ -99,7 +99,9 @@ fn add_line<'a>(
     words: &mut Vec<&'a [u8]>,
     sheet: &mut Vec<u32>,
 ) -> Result<(), SheetFault>
-    ensures { AddsNumbers result sheet.old.items (words_of (text_before_comment text.now)) sheet.new.items }
+    ensures { AddsNumbers result sheet.old.items
+        (words_of (text_before_comment text.now))
+        sheet.new.items }
 {
     split(uncommented(text), words)?;
     add_words(line, words.as_slice(), sheet)

@@ -7,8 +7,8 @@ use std::alloc::AllocError;
 use std::io;
 use thiserror::Error;
 
-/// Why a journal is played no further. It is printed on standard error with the line, and the status
-/// is then 1: docs/JOURNAL.md, "Malformed lines".
+/// Why a journal is played no further. It is printed on standard error with the line, and the
+/// status is then 1: docs/JOURNAL.md, "Malformed lines".
 #[derive(Clone, Copy, Debug, Error)]
 pub enum Halt {
     #[error("no call: a journal begins with `ledger DAY`; `station --help` says more")]

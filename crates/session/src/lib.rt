@@ -115,8 +115,8 @@ fn status(rt: &HostRuntime, ending: Result<Ending, Stop>) -> ExitCode
 }
 
 /// Plays the journal of a file, or of standard input where there is no path. With `csv` the fields
-/// of a line are separated by commas. The status is 0 where the journal was played to its end, and 1
-/// after an error. No clause says which of the two it is, nor what is printed.
+/// of a line are separated by commas. The status is 0 where the journal was played to its end, and
+/// 1 after an error. No clause says which of the two it is, nor what is printed.
 pub fn play_file(rt: &HostRuntime, path: Option<&str>, csv: bool) -> ExitCode
     ensures { exit_status result ≤ 1 }
 {
