@@ -1,11 +1,11 @@
 use Rattle.std.proofs.Common.{sym, arith}
-use Rattle.shares.specs.Counts.{reach_all}
-use Rattle.shares.specs.LargestLaws.{cuttable}
+use Rattle.shares.specs.Counts.{count_from-zero}
+use Rattle.shares.proofs.Cutting.{may_be_cut}
 use Rattle.shares.proofs.cut.Span.whole.Goals as goal
 
 pub invariant_of-result : goal.invariant_of-result
 invariant_of-result c =
     let rounding = c.args.rounding.now in
     let sharing = rounding.sharing in
-    let f = cuttable sharing.quantity sharing.weights.now sharing.total rounding.rest rounding.sheet.now sharing.fairly sharing.whole rounding.rems rounding.remain in
-    record { places = f.places; limit = f.limit; order = omega arith; reached = sym (reach_all _); passed = f.none; enough = f.most; few = omega arith }
+    let f = may_be_cut sharing.quantity sharing.weights.now sharing.total rounding.rest rounding.sheet.now sharing.fairly sharing.whole rounding.rems rounding.remain in
+    record { places = f.places; limit = f.limit; order = omega arith; reached = sym (count_from-zero _); passed = f.none; enough = f.most; few = omega arith }

@@ -4,7 +4,8 @@ use Rattle.std.proofs.lemmas.Iterator.{YieldsList-from_slice}
 use Rattle.std.proofs.lemmas.Iterator.Search.{any_from_yields_List}
 use Rattle.std.proofs.iter.runs.Made.{chains}
 use Rattle.shares.specs.Fair.{max_weight}
-use Rattle.shares.specs.Fairness.{too_much, too_heavy, weightless, all_well, total_fits, parts, total_limit}
+use Rattle.shares.specs.Fairness.{fair_parts}
+use Rattle.shares.proofs.Limits.{too_much, too_heavy, weightless, all_well, total_fits, sum_limit}
 use Rattle.shares.proofs.sharing.Sharing.new.Goals as goal
 use Rattle.shares.proofs.sharing.Sharing.new.Goals.{After-any}
 
@@ -34,9 +35,9 @@ invariant_of-result c =
     let total : c.sum-total.result ≡ sum c.args.weights.now = search rules in
     let light = heavy (goal.at.invariant_of-result c).After-any ∙ c.if-any.false in
     let fairly = all_well _ _ (omega arith) (omega arith) light (omega arith) in
-    let p = parts _ c.args.weights.now fairly in
+    let p = fair_parts _ c.args.weights.now fairly in
     record {
       fairly = fairly;
       whole = total;
-      limit = omega (arith, p.count, total_limit c.args.weights.now p.weights);
+      limit = omega (arith, p.count, sum_limit c.args.weights.now p.weights);
     }
