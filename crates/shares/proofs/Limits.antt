@@ -35,7 +35,8 @@ are_light-all (w ∷ ws) h =
     let rest = are_light-all ws h.1 in
     grind (arith, nat_tests)
 
-pub too_much : (a : ℕ) (ws : List ℕ) → (max_quantity < a) ⊎ (max_weights < length ws) → fair a ws ≡ false
+pub too_much : (a : ℕ) (ws : List ℕ) → (max_quantity < a) ⊎ (max_weights < length ws) →
+    fair a ws ≡ false
 unfolding fair
 too_much a ws h = ⊎_elim (λ p. grind (arith, nat_tests)) (λ p. grind (arith, nat_tests)) h
 
@@ -74,5 +75,6 @@ pub quotient_limit : (a : ℕ) (ws : List ℕ) (w : ℕ) → fair a ws ≡ true 
     a * w / sum ws ≤ max_quantity
 quotient_limit a ws w y h =
     let p = fair_parts a ws y in
-    let m : a * w ≤ sum ws * max_quantity = omega (arith, mul-le a w max_quantity (sum ws) p.quantity h) in
+    let m : a * w ≤ sum ws * max_quantity =
+    omega (arith, mul-le a w max_quantity (sum ws) p.quantity h) in
     div-le_of_le-mul (sum ws) m

@@ -38,7 +38,8 @@ count_from-split (r ∷ rs) t =
     let p = count_above-cons r rs t in
     let q = count_from-cons r rs t in
     let s = count_at-cons r rs t in
-    let here : one_if (nat_le t r) ≡ one_if (nat_lt t r) + one_if (r == t) = grind (arith, nat_tests) in
+    let here : one_if (nat_le t r) ≡ one_if (nat_lt t r) + one_if (r == t) =
+    grind (arith, nat_tests) in
     omega (arith, count_from-split rs t)
 
 pub count_from-zero : (rs : List ℕ) → count_from rs 0 ≡ length rs
@@ -66,6 +67,11 @@ pub record MayCut (rs : List ℕ) (l t : ℕ) : Type 0 where
 pub record IsCut (rs : List ℕ) (l t m : ℕ) : Type 0 where
   pub counted : count_above rs t + m ≡ l
   pub enough : l ≤ count_from rs t
+
+-- how many of the first n places are before a cut of l places at t
+abbrev pub count_before_cut : List ℕ → ℕ → ℕ → ℕ → ℕ
+count_before_cut rs l t n =
+    count_above (take n rs) t + min (count_at (take n rs) t) (l - count_above rs t)
 
 pub cut_below : (rs : List ℕ) (l : ℕ) → l ≤ length rs → (t : ℕ) → count_above rs t ≤ l →
     (u : ℕ) × MayCut rs l u
@@ -95,17 +101,15 @@ module _ (rs : List ℕ) (i : ℕ) (in' : i < length rs) where
     unfolding places_ahead
     below_cut h = omega (arith, count_from_falls rs (suc (slice_index rs i)) t h, cut.enough)
 
-    pub at_cut : slice_index_or rs i 0 ≡ t → places_ahead rs i ≡ count_above rs t + count_at (take i rs) t
+    pub at_cut : slice_index_or rs i 0 ≡ t →
+        places_ahead rs i ≡ count_above rs t + count_at (take i rs) t
     unfolding places_ahead
     at_cut e = ap (λ x. count_above rs x + count_at (take i rs) x) e
 
-    -- how many of the first i places are before the cut
-    abbrev before_cut : ℕ → ℕ
-    before_cut i = count_above (take i rs) t + min (count_at (take i rs) t) (l - count_above rs t)
-
-    -- of the first i + 1 places, one more is before the cut, or none
-    pub before_cut_more : one_if (nat_lt (places_ahead rs i) l) + before_cut i ≡ before_cut (i + 1)
-    before_cut_more =
+    -- of the first i + 1 places, one more is before the cut than of the first i, or none
+    pub count_before_cut_more :
+        one_if (nat_lt (places_ahead rs i) l) + count_before_cut rs l t i ≡ count_before_cut rs l t (i + 1)
+    count_before_cut_more =
         ⊎_elim
         (λ e.
         let a = at_cut e in

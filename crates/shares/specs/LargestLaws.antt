@@ -15,7 +15,7 @@ use Rattle.shares.specs.Fair.{Near}
 use Rattle.shares.specs.Laws.{GivesOneEach, SharesWhole, SharesNear, SharesFairly}
 use Rattle.shares.specs.Rules.{floors, remainders, litres_left, places_ahead, largest_remainder_share, largest_remainder_shares}
 use Rattle.shares.specs.Fairness.{fair_parts}
-use Rattle.shares.specs.Counts.{one_if, count_above, count_at, MayCut, cut_below, count_from-split, before_cut_more}
+use Rattle.shares.specs.Counts.{one_if, count_above, count_at, MayCut, cut_below, count_from-split, count_before_cut, count_before_cut_more}
 
 module _ (a s : ℕ) (some : 0 < s) where
   abbrev fs : List ℕ → List ℕ
@@ -163,16 +163,16 @@ module _ (a : ℕ) (ws : List ℕ) (some : 0 < sum ws) where
       let left = litres_left a ws in
       let one : (q + 1) * s ≡ q * s + s = add-mul q 1 s ∙ ap (λ y. q * s + y) (omega arith) in
       ⊎_elim
-      (λ y. let pos = remainder_some i in' y in rw (f, lt-ltb ahead left y) (omega arith, omega arith))
+      (λ y.
+      let pos = remainder_some i in' y in
+      rw (f, lt-ltb ahead left y) (omega arith, omega arith))
       (λ n. rw (f, le-ltb ahead left n, add-zero q) (omega arith, omega arith))
       (cases_lt ahead left)
 
   -- the first n shares: the floors, and a litre for each place before the cut
-  sum_first : (t : ℕ) (cut : MayCut (remainders a ws) (litres_left a ws) t) (n : ℕ) → n ≤ length ws →
+  sum_first : (t : ℕ) → MayCut (remainders a ws) (litres_left a ws) t → (n : ℕ) → n ≤ length ws →
       sum (map (largest_remainder_share a ws) (range_with_len 0 n)) ≡
-      sum (take n (floors a ws))
-      + (count_above (take n (remainders a ws)) t
-      + min (count_at (take n (remainders a ws)) t) (litres_left a ws - count_above (remainders a ws) t))
+      sum (take n (floors a ws)) + count_before_cut (remainders a ws) (litres_left a ws) t n
   unfolding largest_remainder_share
   sum_first t cut zero le = omega arith
   sum_first t cut (suc n) le =
@@ -181,13 +181,11 @@ module _ (a : ℕ) (ws : List ℕ) (some : 0 < sum ws) where
       let before = sum_first t cut n (omega arith) in
       let one = sum_by-map-range_with_len_more (λ x. x) share 0 n n (omega arith) in
       let f = sum_by_more (λ x. x) (floors a ws) n 0 (omega (arith, length-floors a ws)) in
-      let e = before_cut_more (remainders a ws) n (omega (arith, length-remainders a ws)) left t cut in
+      let inside : n < length (remainders a ws) = omega (arith, length-remainders a ws) in
+      let e = count_before_cut_more (remainders a ws) n inside left t cut in
       subst
-      (λ m.
-      sum (map (largest_remainder_share a ws) (range_with_len 0 m)) ≡
-      sum (take m (floors a ws))
-      + (count_above (take m (remainders a ws)) t
-      + min (count_at (take m (remainders a ws)) t) (left - count_above (remainders a ws) t)))
+      (λ m. sum (map (largest_remainder_share a ws) (range_with_len 0 m)) ≡
+      sum (take m (floors a ws)) + count_before_cut (remainders a ws) (litres_left a ws) t m)
       (add-one n) (omega arith)
 
 largest_places : GivesOneEach largest_remainder_shares

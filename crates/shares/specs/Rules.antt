@@ -33,9 +33,11 @@ litres_left a ws = a - sum (floors a ws)
 -- equal one
 unfoldable pub places_ahead : List ℕ → ℕ → ℕ
 places_ahead rs i =
-    count_by (λ r. nat_lt (slice_index rs i) r) rs + count_by (λ r. nat_eq r (slice_index rs i)) (take i rs)
+    count_by (λ r. nat_lt (slice_index rs i) r) rs
+    + count_by (λ r. nat_eq r (slice_index rs i)) (take i rs)
 
--- largest remainder: the floor, and one litre more while there are litres left for the places before
+-- largest remainder: the floor, and one litre more while there are litres left for the places
+-- before
 unfoldable pub largest_remainder_share : ℕ → List ℕ → ℕ → ℕ
 largest_remainder_share a ws i =
     slice_index (floors a ws) i

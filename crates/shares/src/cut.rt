@@ -51,7 +51,8 @@ impl<'a> Span<'a> {
         }
     }
 
-    // How many of the remainders are above `mark`. A sum of ones is faster than `filter` and `count`.
+    // How many of the remainders are above `mark`. A sum of ones is faster than `filter` and
+    // `count`.
     fn above(&self, mark: u64) -> u64
         ensures { result ≡ count_above self.now.rems.now mark }
     {
@@ -69,12 +70,13 @@ impl<'a> Span<'a> {
         step.min(width - 1)
     }
 
-    // The least remainder from `low` on, or `high` where none is below that: as many reach it as reach
-    // `low`. A test in the fold is faster than a `filter` before it.
+    // The least remainder from `low` on, or `high` where none is below that: as many reach it as
+    // reach `low`. A test in the fold is faster than a `filter` before it.
     fn least(&self) -> u64
         ensures from { self.now.low ≤ result }
         ensures to { result ≤ self.now.high }
-        ensures same { count_from self.now.rems.now result ≡ count_from self.now.rems.now self.now.low }
+        ensures same { count_from self.now.rems.now result
+            ≡ count_from self.now.rems.now self.now.low }
     {
         self.rems.iter().fold(
             self.high,
@@ -82,12 +84,13 @@ impl<'a> Span<'a> {
         )
     }
 
-    // The greatest remainder up to `high`, or `low` where none is above that: as many are above it as
-    // are above `high`.
+    // The greatest remainder up to `high`, or `low` where none is above that: as many are above it
+    // as are above `high`.
     fn greatest(&self) -> u64
         ensures from { self.now.low ≤ result }
         ensures to { result ≤ self.now.high }
-        ensures same { count_above self.now.rems.now result ≡ count_above self.now.rems.now self.now.high }
+        ensures same { count_above self.now.rems.now result
+            ≡ count_above self.now.rems.now self.now.high }
     {
         self.rems.iter().fold(
             self.low,
@@ -113,10 +116,12 @@ impl<'a> Span<'a> {
     fn cut_at(&mut self, mark: u64) -> Option<Cut>
         requires from { self.old.low ≤ mark }
         requires to { mark < self.old.high }
-        ensures cut { IfSome result (λ cut. IsCut self.old.rems.now self.old.wanted cut.at cut.more) }
+        ensures cut { IfSome result
+            (λ cut. IsCut self.old.rems.now self.old.wanted cut.at cut.more) }
         ensures rems { self.new.rems.now ≡ self.old.rems.now }
         ensures wanted { self.new.wanted ≡ self.old.wanted }
-        ensures nearer { IfNone result (self.new.high - self.new.low < self.old.high - self.old.low) }
+        ensures nearer { IfNone result
+            (self.new.high - self.new.low < self.old.high - self.old.low) }
     {
         let above = self.above(mark);
         match above.cmp(&self.wanted) {
@@ -133,8 +138,8 @@ impl<'a> Span<'a> {
         None
     }
 
-    // The cut of the first `wanted` places. The first turns guess. Where no guess hits it, as when it
-    // lies among equal remainders, the others halve what is left between two of them.
+    // The cut of the first `wanted` places. The first turns guess. Where no guess hits it, as when
+    // it lies among equal remainders, the others halve what is left between two of them.
     pub(crate) fn find_cut(mut self) -> Cut
         ensures { IsCut self.entry.rems.now self.entry.wanted result.at result.more }
     {

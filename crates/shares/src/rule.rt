@@ -6,21 +6,22 @@ ghost use Rattle.shares.specs.Guarding.{guarded_laws};
 
 use crate::sharing::Sharing;
 
-/// A rule by which a quantity is shared among weights (docs/RULES.md, "Share rules"). The shares depend
-/// on these two alone.
+/// A rule by which a quantity is shared among weights (docs/RULES.md, "Share rules"). The shares
+/// depend on these two alone.
 pub trait ShareRule {
     ghost shares: { ℕ → List ℕ → List ℕ };
 
-    /// Writes the shares of `quantity` litres over `out`, and zeros where it cannot be shared by the
-    /// weights, or where `out` has not as many places. It never refuses.
+    /// Writes the shares of `quantity` litres over `out`, and zeros where it cannot be shared by
+    /// the weights, or where `out` has not as many places. It never refuses.
     fn share(&self, quantity: u64, weights: &[u64], out: &mut [u64])
-        ensures { out.new ≡ sheet_after (shares quantity weights.now) weights.now (length out.old) };
+        ensures { out.new
+            ≡ sheet_after (shares quantity weights.now) weights.now (length out.old) };
 
     ghost laws: { IsShareRule shares };
 }
 
-/// A rule for what can be shared, which is all that a new rule has to give: with zeros for all else it
-/// is a share rule.
+/// A rule for what can be shared, which is all that a new rule has to give: with zeros for all else
+/// it is a share rule.
 pub trait ProportionalRule {
     ghost rule: { ℕ → List ℕ → List ℕ };
 

@@ -5,8 +5,8 @@ ghost use Rattle.shares.specs.RunningLaws.{running_laws};
 use crate::rule::ProportionalRule;
 use crate::sharing::Sharing;
 
-/// Each place gets what the weights up to it get together, rounded down, less what those before it got
-/// (docs/RULES.md, "Share rules").
+/// Each place gets what the weights up to it get together, rounded down, less what those before it
+/// got (docs/RULES.md, "Share rules").
 #[derive(Clone, Copy)]
 pub struct Running;
 

@@ -27,7 +27,8 @@ pub struct Sharing<'a> {
 impl<'a> Sharing<'a> {
     /// The sharing of `quantity` litres by the weights, if they can be shared by them.
     pub fn new(quantity: u64, weights: &'a [u64]) -> Option<Sharing<'a>>
-        ensures some { IfSome result (λ s. (s.quantity ≡ quantity) × (s.weights.now ≡ weights.now)) }
+        ensures some { IfSome result
+            (λ s. (s.quantity ≡ quantity) × (s.weights.now ≡ weights.now)) }
         ensures none { IfNone result (fair quantity weights.now ≡ false) }
     {
         if quantity > MAX_QUANTITY || weights.len() > MAX_WEIGHTS {

@@ -6,7 +6,8 @@ use Rattle.shares.proofs.cut.Span.cut_at.Goals as goal
 
 pub returns-in-Equal-clause-cut : goal.returns-in-Equal-clause-cut
 returns-in-Equal-clause-cut c =
-    cut_exact _ _ _ (sym (exact_unsigned _ _ (sym c.cmp.ensures ∙ c.in-Equal.is)) ∙ c.above-above.ensures)
+    let same = exact_unsigned _ _ (sym c.cmp.ensures ∙ c.in-Equal.is) in
+    cut_exact _ _ _ (sym same ∙ c.above-above.ensures)
 
 -- those above a mark are those that reach the next one
 pub invariant_of-self-in-Greater-clause-reached : goal.invariant_of-self-in-Greater-clause-reached

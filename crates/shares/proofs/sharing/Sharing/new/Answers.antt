@@ -1,4 +1,4 @@
-use Rattle.std.proofs.Common.{◌≡◌, ◌<◌, ◌^◌, sum, ltb, sym, ◌∙◌, inl, inr, ⊎_elim, arith, rules, tests}
+use Rattle.std.proofs.Common.{◌≡◌, ℕ, ◌<◌, ◌^◌, sum, ltb, sym, ◌∙◌, inl, inr, ⊎_elim, arith, rules, tests}
 use Rattle.std.specs.List.{list_any}
 use Rattle.std.proofs.lemmas.Iterator.{YieldsList-from_slice}
 use Rattle.std.proofs.lemmas.Iterator.Search.{any_from_yields_List}
@@ -9,8 +9,13 @@ use Rattle.shares.proofs.Limits.{too_much, too_heavy, weightless, all_well, tota
 use Rattle.shares.proofs.sharing.Sharing.new.Goals as goal
 use Rattle.shares.proofs.sharing.Sharing.new.Goals.{After-any}
 
+-- the code's test of the weights
 heavy : (c : After-any) → list_any (λ w. ltb max_weight w) c.args.weights.now ≡ c.any.result
-heavy c = sym (any_from_yields_List (λ w. ltb max_weight w) _ _ c.any.result c.any.ensures.ran (YieldsList-from_slice c.args.weights.now cc) (λ x b q k. search (rules, tests)))
+heavy c =
+    let run = c.any.ensures.ran in
+    let items = YieldsList-from_slice c.args.weights.now cc in
+    let test = λ (w : ℕ). ltb max_weight w in
+    sym (any_from_yields_List test _ _ c.any.result run items (λ x b q k. search (rules, tests)))
 
 pub returns-then-quantity-gt-MAX_QUANTITY-clause-none : goal.returns-then-quantity-gt-MAX_QUANTITY-clause-none
 returns-then-quantity-gt-MAX_QUANTITY-clause-none c =
@@ -18,11 +23,14 @@ returns-then-quantity-gt-MAX_QUANTITY-clause-none c =
 
 pub returns-then-any-clause-none : goal.returns-then-any-clause-none
 returns-then-any-clause-none c =
-    too_heavy c.args.quantity c.args.weights.now (heavy (goal.at.returns-then-any-clause-none c).After-any ∙ c.if-any.true)
+    let c' = (goal.at.returns-then-any-clause-none c).After-any in
+    too_heavy c.args.quantity c.args.weights.now (heavy c' ∙ c.if-any.true)
 
 pub sum-total-requires-clause-fits : goal.sum-total-requires-clause-fits
 sum-total-requires-clause-fits c =
-    let small : sum c.args.weights.now < 2 ^ 64 = total_fits c.args.weights.now (omega arith) (heavy (goal.at.sum-total-requires-clause-fits c).After-any ∙ c.if-any.false) in
+    let ws = c.args.weights.now in
+    let c' = (goal.at.sum-total-requires-clause-fits c).After-any in
+    let small : sum ws < 2 ^ 64 = total_fits ws (omega arith) (heavy c' ∙ c.if-any.false) in
     search (rules, chains)
 
 pub returns-then-total-eq0-clause-none : goal.returns-then-total-eq0-clause-none

@@ -7,4 +7,5 @@ pub overflow_mul-result : goal.overflow_mul-result
 overflow_mul-result c = record { fits = product_fits _ _ _ c.args.self.now.fairly c.requires }
 
 pub nonzero_rem-result : goal.nonzero_rem-result
-nonzero_rem-result c = omega (arith, c.args.self.now.whole, (fair_parts _ _ c.args.self.now.fairly).some)
+nonzero_rem-result c =
+    let s = c.args.self.now in omega (arith, s.whole, (fair_parts _ _ s.fairly).some)
