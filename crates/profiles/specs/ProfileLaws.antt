@@ -1,5 +1,5 @@
 -- The laws of the profiles.
-use Rattle.std.proofs.Common.{◌≡◌, ℕ, ◌≤◌, eqb, List, refl, zero-mul, arith}
+use Rattle.std.proofs.Common.{◌≡◌, ℕ, ◌≤◌, eqb, List, zero-mul, arith}
 use native.Mathlib.Nat.{zero-div}
 use Rattle.std.specs.Prelude.{slice_index}
 use Rattle.std.proofs.lemmas.Bool.{cond-false, cond_both}

@@ -87,7 +87,8 @@ module _
         let same = count_by_more_no (λ r. nat_eq r t) (remainders a ws) i 0 inside (ne_eqb _ _ h) in
         omega arith
 
-    one_at : slice_index_or (remainders a ws) i 0 ≡ t → left_at a ws t i - 1 ≡ left_at a ws t (i + 1)
+    one_at : slice_index_or (remainders a ws) i 0 ≡ t →
+        left_at a ws t i - 1 ≡ left_at a ws t (i + 1)
     one_at e =
         let one = count_by_more_yes (λ r. nat_eq r t) (remainders a ws) i 0 inside (eq-eqb _ _ e) in
         omega arith

@@ -108,7 +108,8 @@ module _ (rs : List ℕ) (i : ℕ) (in' : i < length rs) where
 
     -- of the first i + 1 places, one more is before the cut than of the first i, or none
     pub count_before_cut_more :
-        one_if (nat_lt (places_ahead rs i) l) + count_before_cut rs l t i ≡ count_before_cut rs l t (i + 1)
+        one_if (nat_lt (places_ahead rs i) l) + count_before_cut rs l t i ≡
+        count_before_cut rs l t (i + 1)
     count_before_cut_more =
         ⊎_elim
         (λ e.

@@ -1,5 +1,5 @@
 -- A guarded rule keeps the laws of share rules.
-use Rattle.std.specs.Prelude.{◌≡◌, ℕ, ◌+◌, ◌*◌, ◌<◌, true, List, length, sum, slice_index}
+use Rattle.std.specs.Prelude.{◌≡◌, ℕ, true, List, length, sum, slice_index}
 use Rattle.std.proofs.Common.{sym, ap, subst, ◌∙◌, ⊎_elim, mul-zero, arith}
 use Rattle.std.proofs.lemmas.Nat.{mul-le}
 use Rattle.std.proofs.lemmas.List.{length-replicate, get_or-replicate}

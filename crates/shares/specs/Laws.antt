@@ -30,7 +30,8 @@ pub record IsShareRule (rule : Rule) : Type 0 where
   -- what cannot be shared is not shared at all
   pub refused : (a : ℕ) (ws : List ℕ) → fair a ws ≡ false → rule a ws ≡ zeros (length ws)
 
--- the laws of a rule for what can be shared: the other two laws come with its guard
+-- the laws of a rule for what can be shared; of the other two, idle follows from near, and refused
+-- from the guard
 pub record SharesFairly (rule : Rule) : Type 0 where
   pub places : GivesOneEach rule
   pub whole : SharesWhole rule

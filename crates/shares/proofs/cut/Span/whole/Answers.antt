@@ -7,8 +7,9 @@ pub invariant_of-result : goal.invariant_of-result
 invariant_of-result c =
     let r = c.args.rounding.now in
     let s = r.sharing in
+    let ws = s.weights.now in
     let f =
-    may_be_cut s.quantity s.weights.now s.total r.rest r.sheet.now s.fairly s.whole r.rems r.remain in
+    may_be_cut s.quantity ws s.total r.rest r.sheet.now s.fairly s.whole r.rems r.remain in
     record {
       places = f.places;
       limit = f.limit;

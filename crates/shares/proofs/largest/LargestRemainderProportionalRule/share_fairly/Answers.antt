@@ -8,9 +8,9 @@ use Rattle.shares.proofs.largest.LargestRemainderProportionalRule.share_fairly.G
 
 -- the cut is found among the remainders of the sharing
 found : (c : After-cut-cut) →
-    let s = c.args.sharing.now in
-    let cut = c.cut-cut.result in
-    IsCut (remainders s.quantity s.weights.now) (litres_left s.quantity s.weights.now) cut.at cut.more
+    let a = c.args.sharing.now.quantity in
+    let ws = c.args.sharing.now.weights.now in
+    IsCut (remainders a ws) (litres_left a ws) c.cut-cut.result.at c.cut-cut.result.more
 found c =
     rw (c.new.result.rems, c.new.result.remain, c.new.ensures.same_sharing) at c.cut-cut.ensures
 
@@ -32,7 +32,8 @@ loop-i-preserved c =
     let ws = s.weights.now in
     let l = c.loop-i in
     let so_far = c.loop-i.invariant.so_far in
-    let here : get_or l.out l.i 0 ≡ get_or (remainders a ws) l.i 0 = so_far.remainders l.i (omega arith) in
+    let here : get_or l.out l.i 0 ≡ get_or (remainders a ws) l.i 0 =
+    so_far.remainders l.i (omega arith) in
     let i = c.loop-i-test.true in
     let x = c.floor.ensures.value in
     let cut = found (goal.at.loop-i-preserved c).After-cut-cut in
