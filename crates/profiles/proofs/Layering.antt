@@ -44,7 +44,8 @@ layer_factors-whole own segment w f factors none =
     (λ in'.
     let c = column_inside w.temperature in
     let at = place w.season w in
-    let number : get_or numbers at 0 ≡ whole = get_or-replicate layer_cells at whole 0 (omega arith) in
+    let number : get_or numbers at 0 ≡ whole =
+    get_or-replicate layer_cells at whole 0 (omega arith) in
     let day = ap (scaled_factor f.day) number ∙ scaled_factor-whole f.day factors.1 in
     cond_both (eqb segment own) _ _ (λ x. x ≡ f)
     (λ _. ap (factors_of f.multiplier) day)

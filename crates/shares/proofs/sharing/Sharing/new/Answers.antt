@@ -17,7 +17,8 @@ heavy c =
     let test = λ (w : ℕ). ltb max_weight w in
     sym (any_from_yields_List test _ _ c.any.result run items (λ x b q k. search (rules, tests)))
 
-pub returns-then-quantity-gt-MAX_QUANTITY-clause-none : goal.returns-then-quantity-gt-MAX_QUANTITY-clause-none
+pub returns-then-quantity-gt-MAX_QUANTITY-clause-none :
+    goal.returns-then-quantity-gt-MAX_QUANTITY-clause-none
 returns-then-quantity-gt-MAX_QUANTITY-clause-none c =
     too_much _ _ (⊎_elim inl (λ h. inr h.1) c.then-quantity-gt-MAX_QUANTITY.either)
 
