@@ -1,10 +1,10 @@
 //! What `station --help` prints.
 use journal::table::calls;
 use std::fmt;
+use std::io::Write;
 
-/// The text of `station --help`. Its list of calls is the journal's table.
-#[derive(Clone, Copy)]
-pub struct Help;
+// The text of `station --help`. Its list of calls is the journal's table.
+struct Help;
 
 const HEAD: &str = "station: plays a journal of calls on a gas station's ledger
 
@@ -33,6 +33,13 @@ impl fmt::Display for Help {
         }
         f.write_str(TAIL)
     }
+}
+
+/// Prints the text of `station --help`, at one go.
+pub fn print_help(rt: &HostRuntime) -> anyhow::Result<()> {
+    let text = format!(in rt.alloc(); "{Help}")?;
+    rt.stdout().write_all(text.as_bytes())?;
+    Ok(())
 }
 
 /// What is printed where the journal's file is not there, before its path.

@@ -10,10 +10,10 @@ mod help;
 mod session;
 
 use halt::{Ending, Stop};
-use help::{Help, MAKE_ONE};
+use help::{MAKE_ONE, print_help};
 use player::slips::Unended;
 use session::play;
-use std::io::{ErrorKind, Read, Write};
+use std::io::{ErrorKind, Read};
 use std::process::ExitCode;
 use std::{env, fs};
 
@@ -82,7 +82,7 @@ fn try_file(rt: &HostRuntime, path: Option<&str>, csv: bool) -> Result<Ending, S
 fn answer(rt: &HostRuntime) -> Result<Ending, Stop> {
     match read_args(rt)? {
         Asked::Help => {
-            print!(rt; "{Help}")?;
+            print_help(rt)?;
             Ok(Ending::Done)
         }
         Asked::Wrong => {
