@@ -27,10 +27,14 @@ metered_at ts t = (trader_at ts t).metered
 abbrev pub metered_sum : List Trader → ℕ
 metered_sum ts = sum_by (λ (t : Trader). t.metered) ts
 
+-- the sum of a signed number of each element
+unfoldable pub signed_sum_by : {X : Type 0} → (X → ℤ) → List X → ℤ
+signed_sum_by f [] = pos 0
+signed_sum_by f (x ∷ xs) = f x +ℤ signed_sum_by f xs
+
 -- all accounts together
-unfoldable pub all_accounts : List Trader → ℤ
-all_accounts [] = pos 0
-all_accounts (t ∷ ts) = t.account +ℤ all_accounts ts
+abbrev pub all_accounts : List Trader → ℤ
+all_accounts ts = signed_sum_by (λ (t : Trader). t.account) ts
 
 -- the traders once some litres, or fewer than none, joined the account of one
 abbrev pub with_credit : List Trader → ℕ → ℤ → List Trader
@@ -75,8 +79,8 @@ new_book first =
 abbrev pub account_limit : Counts → ℕ
 account_limit c = c.shared * max_litres + c.bookings * max_correction
 
--- the day's figures: between days nothing is metered; a running day lies in the calendar; a measured
--- day's quantity, loss and metered litres are its inflow
+-- the day's figures: between days nothing is metered; a running day lies in the calendar; a
+-- measured day's quantity, loss and metered litres are its inflow
 abbrev pub day_adds_up : Phase → ℕ → ℕ → Bool
 day_adds_up Idle metered next = metered == 0
 day_adds_up (Open n w) metered next = nat_le next last_day

@@ -7,7 +7,7 @@ ghost use Rattle.rows.specs.declared.point.Point.{Point as Row};
 ghost use Rattle.rows.specs.Rows.{sheet_fits};
 ghost use Rattle.rows.specs.Within.{IsWithin};
 ghost use Rattle.ledger.specs.Accounts.{new_book, trader_at, IsSound, all_accounts};
-ghost use Rattle.ledger.specs.Days.{trader_fault, account_of, metered_of};
+ghost use Rattle.ledger.specs.Days.{trader_fault, account_answer, metered_answer};
 ghost use Rattle.ledger.specs.Grounds.{call_answer};
 ghost use Rattle.ledger.specs.History.{IsHistoryOf};
 
@@ -70,14 +70,14 @@ impl Ledger {
 
     /// A trader's account in litres, below 0 where he owes; or refusal 3.
     pub fn account(&self, trader: u32) -> Result<i64, Refusal>
-        ensures { result ≡ account_of self.now.book trader }
+        ensures { result ≡ account_answer self.now.book trader }
     {
         Ok(self.trader(trader)?.account)
     }
 
     /// A trader's metered sum of today in litres; or refusal 3.
     pub fn metered(&self, trader: u32) -> Result<u64, Refusal>
-        ensures { result ≡ metered_of self.now.book trader }
+        ensures { result ≡ metered_answer self.now.book trader }
     {
         Ok(self.trader(trader)?.metered)
     }
