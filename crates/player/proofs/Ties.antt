@@ -1,19 +1,31 @@
--- What a call of the ledger leaves of its phase.
+-- The token and the phase after a call that was refused.
 use Rattle.std.proofs.Common.{◌≡◌, ℕ, true, Some, None, Err, Option, ap, ◌∙◌, arith}
 use Rattle.refusals.specs.declared.Refusal.{Refusal}
-use Rattle.ledger.specs.declared.book.Book.{Book}
 use Rattle.refusals.specs.declared.Refused.{Refused}
-use Rattle.ledger.specs.Grounds.{answered, handed_back, unless}
-use Rattle.player.specs.declared.station.Running.{Running}
-use Rattle.player.specs.Running.{tied}
+use Rattle.ledger.specs.declared.book.Book.{Book}
+use Rattle.ledger.specs.Grounds.{call_answer, token_answer, unless}
+use Rattle.player.specs.declared.station.RunningDay.{RunningDay}
+use Rattle.player.specs.RunningDay.{is_tied}
 
--- a call that was refused
-pub stays : {A : Type 0} (f : Option Refusal) (x : A) (why : Refusal) (new old after : Book) (day : Running) → Err why ≡ answered f x → after ≡ unless f new old → tied old.phase day ≡ true → tied after.phase day ≡ true
-stays None x why new old after day is e t = absurd (let z : ◌≡◌ {A = ℕ} 0 1 = cc in let y : ⊥ = omega arith in y)
-stays (Some w) x why new old after day is e t = ap (λ (b : Book). tied b.phase day) e ∙ t
+-- of a call on no token
+pub tied_after_refusal : {A : Type 0} (f : Option Refusal) (x : A) (why : Refusal)
+    (new old after : Book) (day : RunningDay) →
+    Err why ≡ call_answer f x → after ≡ unless f new old →
+    is_tied old.phase day ≡ true → is_tied after.phase day ≡ true
+tied_after_refusal None x why new old after day e book tied =
+    absurd (let z : ◌≡◌ {A = ℕ} 0 1 = cc in let y : ⊥ = omega arith in y)
+tied_after_refusal (Some w) x why new old after day e book tied =
+    ap (λ (b : Book). is_tied b.phase day) book ∙ tied
 
-pub handed : {A T : Type 0} (f : Option Refusal) (token : T) (x : A) (back : Refused T) (new old after : Book) (run : T → Running) → Err back ≡ handed_back f token x → after ≡ unless f new old → tied old.phase (run token) ≡ true → tied after.phase (run back.given) ≡ true
-handed None token x back new old after run is e t = absurd (let z : ◌≡◌ {A = ℕ} 0 1 = cc in let y : ⊥ = omega arith in y)
-handed (Some w) token x back new old after run is e t =
+-- of a call that handed its token back
+pub tied_after_hand_back : {A T : Type 0} (f : Option Refusal) (token : T) (x : A)
+    (back : Refused T) (new old after : Book) (day : T → RunningDay) →
+    Err back ≡ token_answer f token x → after ≡ unless f new old →
+    is_tied old.phase (day token) ≡ true → is_tied after.phase (day back.given) ≡ true
+tied_after_hand_back None token x back new old after day e book tied =
+    absurd (let z : ◌≡◌ {A = ℕ} 0 1 = cc in let y : ⊥ = omega arith in y)
+tied_after_hand_back (Some w) token x back new old after day e book tied =
     let same : back.given ≡ token = cc in
-    ap (λ (b : Book). tied b.phase (run back.given)) e ∙ ap (λ k. tied old.phase (run k)) same ∙ t
+    ap (λ (b : Book). is_tied b.phase (day back.given)) book
+    ∙ ap (λ t. is_tied old.phase (day t)) same
+    ∙ tied
