@@ -79,8 +79,8 @@ new_book first =
 abbrev pub account_limit : Counts → ℕ
 account_limit c = c.shared * max_litres + c.bookings * max_correction
 
--- the day's figures: between days nothing is metered; a running day lies in the calendar; a measured
--- day's quantity, loss and metered litres are its inflow
+-- the day's figures: between days nothing is metered; a running day lies in the calendar; a
+-- measured day's quantity, loss and metered litres are its inflow
 abbrev pub day_adds_up : Phase → ℕ → ℕ → Bool
 day_adds_up Idle metered next = metered == 0
 day_adds_up (Open n w) metered next = nat_le next last_day

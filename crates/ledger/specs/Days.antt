@@ -64,10 +64,11 @@ point_admission l s given =
 
 abbrev pub opening_fault : Book → DayWeather → Option Refusal
 opening_fault l weather =
+    let full = nat_le max_shared l.counts.shared || nat_le max_opened l.counts.opened in
     first_ground
     ((not (is_in_range weather), Weather)
     ∷ (not (is_idle l.phase), DayRunning)
-    ∷ (nat_le max_shared l.counts.shared || (nat_le max_opened l.counts.opened || nat_lt last_day l.next_day), NoMoreDays)
+    ∷ (full || nat_lt last_day l.next_day, NoMoreDays)
     ∷ [])
 
 abbrev pub accepted_opening : Book → List Point → DayWeather → Outcome OpenDay
@@ -129,7 +130,8 @@ accepted_measurement l s day inflow rate =
       rows = s;
     }
 
-abbrev pub measurement : Book → List Point → OpenDay → ℕ → ℕ → Outcome (Result MeasuredDay (Refused OpenDay))
+abbrev pub measurement : Book → List Point → OpenDay → ℕ → ℕ →
+    Outcome (Result MeasuredDay (Refused OpenDay))
 measurement l s day inflow rate =
     token_outcome day (measurement_fault l day inflow rate) l s
     (accepted_measurement l s day inflow rate)
@@ -147,7 +149,8 @@ abbrev pub accepted_abandonment : Book → List Point → Outcome Unit
 accepted_abandonment l s = record { answer = tt; book = ended_book l; rows = s }
 
 -- day: what the token stands for; a refusal hands the token back
-abbrev pub abandonment : {T : Type 0} → Book → List Point → DayToken → T → Outcome (Result Unit (Refused T))
+abbrev pub abandonment : {T : Type 0} → Book → List Point → DayToken → T →
+    Outcome (Result Unit (Refused T))
 abandonment l s day token =
     token_outcome token (abandonment_fault l day) l s (accepted_abandonment l s)
 

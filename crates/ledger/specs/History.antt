@@ -31,7 +31,8 @@ pub data Event : Type 0 where
   -- the inflow and the rate
   InflowTaken : OpenDay → ℕ → ℕ → Result MeasuredDay (Refused OpenDay) → Event
   -- the last: the work sheets as the call left them
-  Shared : MeasuredDay → ShareOutInputs → Result SharedOut (Refused MeasuredDay) → WorkSheets → Event
+  Shared : MeasuredDay → ShareOutInputs → Result SharedOut (Refused MeasuredDay) → WorkSheets →
+      Event
   Abandoned : DayToken → Result Unit (Refused DayToken) → Event
   -- the point and the reading
   PointRead : ℕ → ℕ → Result Slip Refusal → Event
@@ -44,7 +45,9 @@ abbrev pub History : Type 0
 History = List Event
 
 -- a share-out by a lawful profile and a lawful share rule
-pub record LawfulShareOut (l : Book) (s : List Point) (day : MeasuredDay) (m : ShareOutInputs) (r : Result SharedOut (Refused MeasuredDay)) (l' : Book) (s' : List Point) (w : WorkSheets) : Type 0 where
+pub record LawfulShareOut (l : Book) (s : List Point) (day : MeasuredDay) (m : ShareOutInputs)
+    (r : Result SharedOut (Refused MeasuredDay)) (l' : Book) (s' : List Point) (w : WorkSheets)
+    : Type 0 where
   pub profile : TellsFactors m.tells
   pub rule : IsShareRule m.rule
   pub shares_out : SharesOut l s day m r l' s' w
@@ -67,4 +70,5 @@ Step (Withdrawn slip r) l s l' s' = Became (withdrawal l s slip) r l' s'
 -- unused one as well, and each of its calls takes the two on
 pub data IsHistoryOf : History → Book → List Point → Type 0 where
   start : (first : ℕ) (s : List Point) → IsHistoryOf [] (new_book first) s
-  next : {h : History} {e : Event} {l l' : Book} {s s' : List Point} → IsHistoryOf h l s → Step e l s l' s' → IsHistoryOf (e ∷ h) l' s'
+  next : {h : History} {e : Event} {l l' : Book} {s s' : List Point} →
+      IsHistoryOf h l s → Step e l s l' s' → IsHistoryOf (e ∷ h) l' s'

@@ -13,7 +13,8 @@ pub record Outcome (A : Type 0) : Type 0 where
 
 -- the outcome of a call on the ledger l and the sheet s: the accepted one where no ground is met;
 -- else the ground is returned and all stays
-abbrev pub call_outcome : {A : Type 0} → Option Refusal → Book → List Point → Outcome A → Outcome (Result A Refusal)
+abbrev pub call_outcome : {A : Type 0} → Option Refusal → Book → List Point → Outcome A →
+    Outcome (Result A Refusal)
 call_outcome fault l s accepted =
     record {
       answer = call_answer fault accepted.answer;
@@ -22,7 +23,8 @@ call_outcome fault l s accepted =
     }
 
 -- the same of a call that hands its token back
-abbrev pub token_outcome : {A T : Type 0} → T → Option Refusal → Book → List Point → Outcome A → Outcome (Result A (Refused T))
+abbrev pub token_outcome : {A T : Type 0} → T → Option Refusal → Book → List Point → Outcome A →
+    Outcome (Result A (Refused T))
 token_outcome token fault l s accepted =
     record {
       answer = token_answer fault token accepted.answer;

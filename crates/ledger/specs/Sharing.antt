@@ -28,7 +28,7 @@ pub record WorkSheets : Type 0 where
   pub uses : List ℕ
   pub shares : List ℕ
 
--- what a share-out is handed besides the ledger, its day and its sheet: what the profile tells, the
+-- what a share-out is handed besides the ledger, its day and its sheet: what the profile gives, the
 -- segments that it serves, the rule, and the work sheets
 pub record ShareOutInputs : Type 0 where
   pub tells : Tells
@@ -126,7 +126,8 @@ accepted_share_out l s m =
     }
 
 -- the answer, the ledger and the sheet
-abbrev pub share_out : Book → List Point → MeasuredDay → ShareOutInputs → Outcome (Result SharedOut (Refused MeasuredDay))
+abbrev pub share_out : Book → List Point → MeasuredDay → ShareOutInputs →
+    Outcome (Result SharedOut (Refused MeasuredDay))
 share_out l s day m =
     token_outcome day (share_out_fault l s day m) l s (accepted_share_out l s m)
 
@@ -145,8 +146,11 @@ work_sheets_after l s day m =
           m.sheets.shares;
     }
 
--- a share-out so handed in returned r, and left the ledger at l', the sheet at s', the work sheets at w
-pub record SharesOut (l : Book) (s : List Point) (day : MeasuredDay) (m : ShareOutInputs) (r : Result SharedOut (Refused MeasuredDay)) (l' : Book) (s' : List Point) (w : WorkSheets) : Type 0 where
+-- a share-out with these inputs returned r, and left the ledger at l', the sheet at s' and the work
+-- sheets at w
+pub record SharesOut (l : Book) (s : List Point) (day : MeasuredDay) (m : ShareOutInputs)
+    (r : Result SharedOut (Refused MeasuredDay)) (l' : Book) (s' : List Point) (w : WorkSheets)
+    : Type 0 where
   pub became : Became (share_out l s day m) r l' s'
   pub uses : w.uses ≡ (work_sheets_after l s day m).uses
   pub shares : w.shares ≡ (work_sheets_after l s day m).shares

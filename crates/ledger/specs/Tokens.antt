@@ -38,6 +38,7 @@ weather_of (Open n w) = w
 weather_of (Measured n w g x q) = w
 
 -- the answer of a call on a day, with the day that a refusal hands back as a token of any kind
-abbrev pub token_handed_back : {A T : Type 0} → (T → DayToken) → Result A (Refused T) → Result A (Refused DayToken)
+abbrev pub token_handed_back : {A T : Type 0} → (T → DayToken) → Result A (Refused T) →
+    Result A (Refused DayToken)
 token_handed_back day (Ok x) = Ok x
 token_handed_back day (Err e) = Err (record { why = e.why; given = day e.given })

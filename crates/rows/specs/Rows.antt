@@ -1,5 +1,5 @@
--- The rows of a point sheet: their ranges, what a point is expected to consume, and what a share-out
--- makes of a row.
+-- The rows of a point sheet: their ranges, what a point is expected to consume, and what a
+-- share-out makes of a row.
 use Rattle.std.specs.Prelude.{ℕ, zero, suc, ◌+◌, ◌*◌, ◌/◌, ◌^◌, ◌<◌, ◌≤◌, Bool, true, cond, ◌&&◌, List, map, length, ◌==◌, nat_le, nat_lt, slice_index, slice_index_or, slice_set}
 use Rattle.profiles.specs.declared.factors.Factors.{Factors}
 use Rattle.profiles.specs.Laws.{factors_of, whole}

@@ -1,119 +1,130 @@
--- What of a history counts: the points that joined, the days that were shared out and the readings that were booked, from the
--- accepted calls alone.
+-- What of a history counts: the points that joined, the days that were shared out and the readings
+-- that were booked, from the accepted calls alone.
 use Rattle.std.specs.Prelude.{ℕ, ◌+◌, cond, ◌&&◌, List, [], ◌∷◌, take, ℤ, pos, is_ok, Ok, Err, Result, ◌==◌}
-use Rattle.rows.specs.declared.point.Particulars.{Particulars}
-use Rattle.ledger.specs.History.{History, TraderAdmitted, PointAdmitted, Opened, Entered, InflowTaken, Shared, OpenAbandoned, MeasuredAbandoned, PointRead, Booked, HandedOver, Withdrawn}
+use Rattle.profiles.specs.declared.weather.Weather.{Weather}
 use Rattle.profiles.specs.Laws.{Tells}
+use Rattle.rows.specs.declared.point.Particulars.{Particulars}
+use Rattle.ledger.specs.History.{History, PointAdmitted, Opened, Entered, InflowTaken, Shared, PointRead, Booked, HandedOver}
 
 -- what an accepted call changes, and what stays as it was after a refused one
-abbrev pub accepted : {A B C : Type 0} → Result A B → C → C → C
-accepted r new old = cond (is_ok r) new old
+abbrev pub unless_refused : {A B C : Type 0} → Result A B → C → C → C
+unless_refused r new old = cond (is_ok r) new old
 
 -- one metered entry: the trader and the litres
-pub record Metered : Type 0 where
+pub record MeteredEntry : Type 0 where
   pub trader : ℕ
   pub litres : ℕ
 
--- a day by its accepted calls: what its opening took, its entries, the inflow and the rate last taken
+-- a day by its accepted calls: what its opening took, its entries, the inflow and the rate last
+-- taken
 pub record Day : Type 0 where
-  pub temperature : ℤ
-  pub season : ℕ
-  pub entries : List Metered
+  pub weather : Weather
+  pub entries : List MeteredEntry
   pub inflow : ℕ
   pub rate : ℕ
 
-abbrev pub opening : ℤ → ℕ → Day
-opening temperature season = record { temperature = temperature; season = season; entries = []; inflow = 0; rate = 0 }
+abbrev pub new_day : Weather → Day
+new_day weather = record { weather = weather; entries = []; inflow = 0; rate = 0 }
 
 abbrev pub with_entry : Day → ℕ → ℕ → Day
-with_entry d t q =
-    record {
-      temperature = d.temperature;
-      season = d.season;
-      entries = record { trader = t; litres = q } ∷ d.entries;
-      inflow = d.inflow;
-      rate = d.rate;
-    }
+with_entry d t q = record d { entries = record { trader = t; litres = q } ∷ d.entries }
 
 abbrev pub with_inflow : Day → ℕ → ℕ → Day
-with_inflow d g r =
-    record { temperature = d.temperature; season = d.season; entries = d.entries; inflow = g; rate = r }
+with_inflow d inflow rate = record d { inflow = inflow; rate = rate }
 
--- the day opened last
-abbrev pub last_day : History → Day
-last_day [] = opening (pos 0) 0
-last_day (TraderAdmitted r ∷ h) = last_day h
-last_day (PointAdmitted g r ∷ h) = last_day h
-last_day (Opened t n r ∷ h) = accepted r (opening t n) (last_day h)
-last_day (Entered d t q r ∷ h) = accepted r (with_entry (last_day h) t q) (last_day h)
-last_day (InflowTaken d g x r ∷ h) = accepted r (with_inflow (last_day h) g x) (last_day h)
-last_day (Shared d m r us ss ∷ h) = last_day h
-last_day (OpenAbandoned d r ∷ h) = last_day h
-last_day (MeasuredAbandoned d r ∷ h) = last_day h
-last_day (PointRead k v r ∷ h) = last_day h
-last_day (Booked w r ∷ h) = last_day h
-last_day (HandedOver w t r ∷ h) = last_day h
-last_day (Withdrawn w r ∷ h) = last_day h
+-- the day opened last; before the first, one at 0.0 degrees in winter
+abbrev pub latest_day : History → Day
+latest_day [] = new_day (record { temperature = pos 0; season = 0 })
+latest_day (Opened weather r ∷ h) = unless_refused r (new_day weather) (latest_day h)
+latest_day (Entered day t q r ∷ h) = unless_refused r (with_entry (latest_day h) t q) (latest_day h)
+latest_day (InflowTaken day g x r ∷ h) =
+    unless_refused r (with_inflow (latest_day h) g x) (latest_day h)
+latest_day (e ∷ h) = latest_day h
 
 -- the reading taken last at a point: that of its open slip, while it has one
-abbrev pub last_reading : History → ℕ → ℕ
-last_reading [] j = 0
-last_reading (TraderAdmitted r ∷ h) j = last_reading h j
-last_reading (PointAdmitted g r ∷ h) j = last_reading h j
-last_reading (Opened t n r ∷ h) j = last_reading h j
-last_reading (Entered d t q r ∷ h) j = last_reading h j
-last_reading (InflowTaken d g x r ∷ h) j = last_reading h j
-last_reading (Shared d m r us ss ∷ h) j = last_reading h j
-last_reading (OpenAbandoned d r ∷ h) j = last_reading h j
-last_reading (MeasuredAbandoned d r ∷ h) j = last_reading h j
-last_reading (PointRead k v r ∷ h) j = cond (is_ok r && k == j) v (last_reading h j)
-last_reading (Booked w r ∷ h) j = last_reading h j
-last_reading (HandedOver w t r ∷ h) j = last_reading h j
-last_reading (Withdrawn w r ∷ h) j = last_reading h j
+abbrev pub latest_reading : History → ℕ → ℕ
+latest_reading [] j = 0
+latest_reading (PointRead k v r ∷ h) j = cond (is_ok r && k == j) v (latest_reading h j)
+latest_reading (e ∷ h) j = latest_reading h j
 
--- the correction that a booking told
-abbrev pub told_in : {B : Type 0} → Result ℤ B → ℤ
-told_in (Ok z) = z
-told_in (Err e) = pos 0
+-- the correction that a booking returned
+abbrev pub correction_in : {B : Type 0} → Result ℤ B → ℤ
+correction_in (Ok z) = z
+correction_in (Err e) = pos 0
 
--- a point joined with its particulars; or a day was shared out, by a profile, and these shares were written to the points; or a reading of
--- a point was booked and a correction told, and the point is then this trader's, another one after a hand-over
+-- a day shared out: by what profile, and the shares that were written for the points
+pub record SharedDay : Type 0 where
+  pub day : Day
+  pub tells : Tells
+  pub shares : List ℕ
+
+-- a reading booked: the point, the reading, the trader whose the point is then (another one after a
+-- hand-over), and the correction
+pub record Booking : Type 0 where
+  pub point : ℕ
+  pub reading : ℕ
+  pub trader : ℕ
+  pub correction : ℤ
+
+-- a point joined with its particulars; or a day was shared out; or a reading was booked
 pub data Settlement : Type 0 where
-  joined : Particulars → Settlement
-  day_shared : Day → Tells → List ℕ → Settlement
-  booked : (point reading trader : ℕ) (correction : ℤ) → Settlement
+  Joined : Particulars → Settlement
+  DayShared : SharedDay → Settlement
+  ReadingBooked : Booking → Settlement
 
 -- how many points had joined
 abbrev pub points_in : List Settlement → ℕ
 points_in [] = 0
-points_in (joined g ∷ c) = points_in c + 1
-points_in (day_shared d tells ss ∷ c) = points_in c
-points_in (booked k v t z ∷ c) = points_in c
+points_in (Joined g ∷ c) = points_in c + 1
+points_in (e ∷ c) = points_in c
 
--- whose a point is: the trader it joined with, or the one it was booked to last
+-- whose a point is: the trader that it joined with, or the one that it was booked to last
 abbrev pub trader_of : List Settlement → ℕ → ℕ
 trader_of [] j = 0
-trader_of (joined g ∷ c) j = cond (j == points_in c) g.trader (trader_of c j)
-trader_of (day_shared d tells ss ∷ c) j = trader_of c j
-trader_of (booked k v t z ∷ c) j = cond (j == k) t (trader_of c j)
+trader_of (Joined g ∷ c) j = cond (j == points_in c) g.trader (trader_of c j)
+trader_of (ReadingBooked b ∷ c) j = cond (j == b.point) b.trader (trader_of c j)
+trader_of (e ∷ c) j = trader_of c j
 
--- the settlements of a history, the newest first. Of the second work sheet only the places of the points that had joined count.
+-- the days shared out, and the readings booked, the newest first
+abbrev pub days_in : List Settlement → List SharedDay
+days_in [] = []
+days_in (DayShared d ∷ c) = d ∷ days_in c
+days_in (e ∷ c) = days_in c
+
+abbrev pub bookings_in : List Settlement → List Booking
+bookings_in [] = []
+bookings_in (ReadingBooked b ∷ c) = b ∷ bookings_in c
+bookings_in (e ∷ c) = bookings_in c
+
+-- the settlements of a history, the newest first. Of the second work sheet only the places of the
+-- points that had joined count.
 abbrev pub settlements : History → List Settlement
 settlements [] = []
-settlements (TraderAdmitted r ∷ h) = settlements h
-settlements (PointAdmitted g r ∷ h) = accepted r (joined g ∷ settlements h) (settlements h)
-settlements (Opened t n r ∷ h) = settlements h
-settlements (Entered d t q r ∷ h) = settlements h
-settlements (InflowTaken d g x r ∷ h) = settlements h
-settlements (Shared d m r us ss ∷ h) =
-    accepted r (day_shared (last_day h) m.tells (take (points_in (settlements h)) ss) ∷ settlements h) (settlements h)
-settlements (OpenAbandoned d r ∷ h) = settlements h
-settlements (MeasuredAbandoned d r ∷ h) = settlements h
-settlements (PointRead k v r ∷ h) = settlements h
-settlements (Booked w r ∷ h) =
-    accepted r
-    (booked w.point (last_reading h w.point) (trader_of (settlements h) w.point) (told_in r) ∷ settlements h)
-    (settlements h)
-settlements (HandedOver w t r ∷ h) =
-    accepted r (booked w.point (last_reading h w.point) t (told_in r) ∷ settlements h) (settlements h)
-settlements (Withdrawn w r ∷ h) = settlements h
+settlements (PointAdmitted given r ∷ h) =
+    unless_refused r (Joined given ∷ settlements h) (settlements h)
+settlements (Shared day m r sheets ∷ h) =
+    let c = settlements h in
+    let shares = take (points_in c) sheets.shares in
+    let shared : SharedDay = record { day = latest_day h; tells = m.tells; shares = shares } in
+    unless_refused r (DayShared shared ∷ c) c
+settlements (Booked slip r ∷ h) =
+    let c = settlements h in
+    let booked : Booking =
+    record {
+      point = slip.point;
+      reading = latest_reading h slip.point;
+      trader = trader_of c slip.point;
+      correction = correction_in r;
+    } in
+    unless_refused r (ReadingBooked booked ∷ c) c
+settlements (HandedOver slip t r ∷ h) =
+    let c = settlements h in
+    let booked : Booking =
+    record {
+      point = slip.point;
+      reading = latest_reading h slip.point;
+      trader = t;
+      correction = correction_in r;
+    } in
+    unless_refused r (ReadingBooked booked ∷ c) c
+settlements (e ∷ h) = settlements h

@@ -13,8 +13,10 @@ use rows::{MAX_TRADERS, Particulars, Point};
 impl Ledger {
     /// Admits a trader: his number, 0 to 63; or refusal 26.
     pub fn admit_trader(&mut self) -> Result<u32, Refusal>
-        ensures became { (s : List Row) → Became (trader_admission self.old.book s) result self.new.book s }
-        ensures run { (s : List Row) → Step (TraderAdmitted result) self.old.book s self.new.book s }
+        ensures became { (s : List Row) →
+            Became (trader_admission self.old.book s) result self.new.book s }
+        ensures run { (s : List Row) →
+            Step (TraderAdmitted result) self.old.book s self.new.book s }
     {
         let number = self.book.counts.traders;
         if number >= MAX_TRADERS {
@@ -41,8 +43,10 @@ impl Ledger {
     /// Admits a point: writes its row at the next place of the sheet, and gives its number, from 0;
     /// or refusal 1, 3, 7 or 26.
     pub fn admit_point(&mut self, sheet: &mut [Point], given: Particulars) -> Result<usize, Refusal>
-        ensures became { Became (point_admission self.old.book sheet.old given) result self.new.book sheet.new }
-        ensures run { Step (PointAdmitted given result) self.old.book sheet.old self.new.book sheet.new }
+        ensures became { Became (point_admission self.old.book sheet.old given)
+            result self.new.book sheet.new }
+        ensures run { Step (PointAdmitted given result)
+            self.old.book sheet.old self.new.book sheet.new }
     {
         self.check_point(sheet, given)?;
         let number = self.book.counts.points;

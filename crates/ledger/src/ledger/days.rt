@@ -35,8 +35,10 @@ impl Ledger {
 
     /// Opens a day at a temperature and in a season; or refusal 5, 22 or 23.
     pub fn open(&mut self, weather: Weather) -> Result<OpenDay, Refusal>
-        ensures became { (s : List Row) → Became (opening self.old.book s weather) result self.new.book s }
-        ensures run { (s : List Row) → Step (Opened weather result) self.old.book s self.new.book s }
+        ensures became { (s : List Row) →
+            Became (opening self.old.book s weather) result self.new.book s }
+        ensures run { (s : List Row) →
+            Step (Opened weather result) self.old.book s self.new.book s }
     {
         self.check_opening(weather)?;
         let number = self.book.counts.opened + 1;

@@ -50,8 +50,10 @@ impl Ledger {
     /// Reads a point: its row keeps the reading, in dial units, until the slip ends; or refusal 1,
     /// 4, 11, 7, 27 or 28.
     pub fn read(&mut self, sheet: &mut [Point], point: usize, reading: u32) -> Result<Slip, Refusal>
-        ensures became { Became (reading_at self.old.book sheet.old point reading) result self.new.book sheet.new }
-        ensures run { Step (PointRead point reading result) self.old.book sheet.old self.new.book sheet.new }
+        ensures became { Became (reading_at self.old.book sheet.old point reading)
+            result self.new.book sheet.new }
+        ensures run { Step (PointRead point reading result)
+            self.old.book sheet.old self.new.book sheet.new }
     {
         let row = self.readable(sheet, point, reading)?;
         let number = self.book.counts.readings + 1;
@@ -95,7 +97,8 @@ impl Ledger {
     /// Books a reading: the correction, in litres, is added to the trader's account and taken from
     /// the distributor's; or refusal 1, 4, 11 or 21, which hands the slip back.
     pub fn book(&mut self, sheet: &mut [Point], slip: Slip) -> Result<i64, Refused<Slip>>
-        ensures became { Became (booking self.old.book sheet.old slip) result self.new.book sheet.new }
+        ensures became { Became (booking self.old.book sheet.old slip)
+            result self.new.book sheet.new }
         ensures run { Step (Booked slip result) self.old.book sheet.old self.new.book sheet.new }
     {
         match self.bookable(sheet, &slip) {
@@ -134,8 +137,10 @@ impl Ledger {
         slip: Slip,
         trader: u32,
     ) -> Result<i64, Refused<Slip>>
-        ensures became { Became (hand_over self.old.book sheet.old slip trader) result self.new.book sheet.new }
-        ensures run { Step (HandedOver slip trader result) self.old.book sheet.old self.new.book sheet.new }
+        ensures became { Became (hand_over self.old.book sheet.old slip trader)
+            result self.new.book sheet.new }
+        ensures run { Step (HandedOver slip trader result)
+            self.old.book sheet.old self.new.book sheet.new }
     {
         match self.transferable(sheet, &slip, trader) {
             Err(why) => Err(Refused { why, given: slip }),
@@ -163,7 +168,8 @@ impl Ledger {
     /// Withdraws a reading: the slip ends and nothing is booked; or refusal 1, 4 or 21, which hands
     /// the slip back.
     pub fn withdraw(&self, sheet: &mut [Point], slip: Slip) -> Result<(), Refused<Slip>>
-        ensures became { Became (withdrawal self.now.book sheet.old slip) result self.now.book sheet.new }
+        ensures became { Became (withdrawal self.now.book sheet.old slip)
+            result self.now.book sheet.new }
         ensures run { Step (Withdrawn slip result) self.now.book sheet.old self.now.book sheet.new }
     {
         match self.withdrawable(sheet, &slip) {

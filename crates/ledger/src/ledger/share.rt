@@ -93,7 +93,8 @@ fn divide<R: ShareRule>(rule: &R, quantity: u64, n: usize, uses: &[u64], shares:
 fn credit(traders: &mut [Trader; 64], rows: &mut [Point], factors: &[Factors; 8], shares: &[u64])
     requires { CanCredit traders.old rows.old shares.now }
     ensures traders { traders.new ≡ with_shares traders.old rows.old shares.now (length rows.old) }
-    ensures rows { rows.new ≡ shared_rows (factors_at factors.now) rows.old shares.now (length rows.old) }
+    ensures rows { rows.new ≡
+        shared_rows (factors_at factors.now) rows.old shares.now (length rows.old) }
 {
     for (i, share) in shares.iter().enumerate() {
         let row = rows[i];
@@ -122,8 +123,8 @@ impl Ledger {
         shares: usize,
     ) -> Result<(), Refusal>
         ensures { let segments = P.Profile.SEGMENTS in
-            result
-            ≡ call_answer (share_out_grounds self.now.book sheet.now day.now segments uses shares) tt }
+            let first = share_out_grounds self.now.book sheet.now day.now segments uses shares in
+            result ≡ call_answer first tt }
     {
         let rows = self.rows(sheet)?;
         if uses < rows.len() || shares < rows.len() {
@@ -151,9 +152,11 @@ impl Ledger {
         requires { IsWeighable self.now.book sheet.now (length uses.old) }
         ensures factors { let tells = P.Profile.tells profile.now in
             result.factors ≡ map (factors_on self.now.book.phase tells) (range_with_len 0 8) }
-        ensures written { let consumptions = day_consumptions self.now.book sheet.now (P.Profile.tells profile.now) in
+        ensures written { let tells = P.Profile.tells profile.now in
+            let consumptions = day_consumptions self.now.book sheet.now tells in
             uses.new ≡ consumptions ++ drop self.now.book.counts.points uses.old }
-        ensures total { result.total ≡ sum (day_consumptions self.now.book sheet.now (P.Profile.tells profile.now)) }
+        ensures total { let tells = P.Profile.tells profile.now in
+            result.total ≡ sum (day_consumptions self.now.book sheet.now tells) }
     {
         let n = self.book.counts.points;
         let factors = ask(profile, self.book.phase.weather());
@@ -199,8 +202,8 @@ impl Ledger {
 
     /// Shares out a measured day by a profile and a share rule. The first places of the first work
     /// sheet get the points' profile consumptions, those of the second their shares, in litres. Or
-    /// refusal 1, 2, 11, 20, 30, 31 or 32, which hands the day back; after 32 the first work sheet's
-    /// places hold 0.
+    /// refusal 1, 2, 11, 20, 30, 31 or 32, which hands the day back; after 32 those places of the
+    /// first work sheet hold 0.
     pub fn share_out<P: Profile, R: ShareRule>(
         &mut self,
         day: MeasuredDay,
@@ -211,12 +214,14 @@ impl Ledger {
         shares: &mut [u64],
     ) -> Result<SharedOut, Refused<MeasuredDay>>
         ensures became { let tells = P.Profile.tells profile.now in
-            let handed = inputs_of tells P.Profile.SEGMENTS R.ShareRule.shares uses.old shares.old in
-            SharesOut self.old.book sheet.old day handed result self.new.book sheet.new
-            (work_sheets_of uses.new shares.new) }
+            let segments = P.Profile.SEGMENTS in
+            let inputs = inputs_of tells segments R.ShareRule.shares uses.old shares.old in
+            SharesOut self.old.book sheet.old day inputs
+            result self.new.book sheet.new (work_sheets_of uses.new shares.new) }
         ensures run { let tells = P.Profile.tells profile.now in
-            let handed = inputs_of tells P.Profile.SEGMENTS R.ShareRule.shares uses.old shares.old in
-            Step (Shared day handed result (work_sheets_of uses.new shares.new))
+            let segments = P.Profile.SEGMENTS in
+            let inputs = inputs_of tells segments R.ShareRule.shares uses.old shares.old in
+            Step (Shared day inputs result (work_sheets_of uses.new shares.new))
             self.old.book sheet.old self.new.book sheet.new }
     {
         if let Err(why) = self.check_share_out::<P>(&day, sheet, uses.len(), shares.len()) {
