@@ -177,19 +177,29 @@ impl Station {
             Became (day_measurement self.old.ledger.book s self.old.running litres rate)
             result self.new.ledger.book s }
     {
-        let (running, answer) = match replace(&mut self.running, RunningDay::Idle) {
+        match replace(&mut self.running, RunningDay::Idle) {
             RunningDay::Open(day) => {
                 let number = day.number();
                 match self.ledger.take_inflow(day, litres, rate) {
-                    Ok(day) => (RunningDay::Measured(day), Ok(number)),
-                    Err(Refused { why, given }) => (RunningDay::Open(given), Err(why)),
+                    Ok(day) => {
+                        self.running.begin(RunningDay::Measured(day));
+                        Ok(number)
+                    }
+                    Err(Refused { why, given }) => {
+                        self.running.begin(RunningDay::Open(given));
+                        Err(why)
+                    }
                 }
             }
-            running if litres > MAX_LITRES || rate > MAX_RATE => (running, Err(Refusal::Litres)),
-            running => (running, Err(Refusal::NotRunning)),
-        };
-        self.running.begin(running);
-        answer
+            running => {
+                self.running.begin(running);
+                Err(if litres > MAX_LITRES || rate > MAX_RATE {
+                    Refusal::Litres
+                } else {
+                    Refusal::NotRunning
+                })
+            }
+        }
     }
 
     // Shares the measured day out by a profile and a share rule; or refusal 1, 2, 11, 20, 30, 31 or
