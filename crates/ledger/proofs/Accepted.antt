@@ -33,13 +33,15 @@ pub record PointFits (l : Book) (s : List Point) (g : Particulars) : Type 0 wher
   pub particulars : particulars_fit g ≡ true
   pub room : l.counts.points < length s
 
-pub point_fits : (l : Book) (s : List Point) (g : Particulars) → point_admission_fault l s g ≡ None → PointFits l s g
+pub point_fits : (l : Book) (s : List Point) (g : Particulars) →
+    point_admission_fault l s g ≡ None → PointFits l s g
 point_fits l s g e =
     let a = no_ground _ _ _ e in
     let b = no_ground _ _ _ a.1 in
     let c = no_ground _ _ _ b.1 in
     let d = no_ground _ _ _ c.1 in
-    let f = and_parts (leb l.counts.points (length s)) (leb (length s) max_points) (not-false _ a.0) in
+    let f = and_parts (leb l.counts.points (length s)) (leb (length s) max_points)
+    (not-false _ a.0) in
     record {
       short = leb-true _ _ f.1;
       trader = leb-false _ _ b.0;
@@ -74,7 +76,8 @@ pub record Enters (l : Book) (day : OpenDay) (t litres : ℕ) : Type 0 where
   pub running : is_open l.phase day.number ≡ true
   pub room : metered_sum l.traders + litres ≤ max_litres
 
-pub enters : (l : Book) (day : OpenDay) (t litres : ℕ) → entry_fault l day t litres ≡ None → Enters l day t litres
+pub enters : (l : Book) (day : OpenDay) (t litres : ℕ) → entry_fault l day t litres ≡ None →
+    Enters l day t litres
 enters l day t litres e =
     let a = no_ground _ _ _ e in
     let b = no_ground _ _ _ a.1 in
@@ -88,7 +91,8 @@ pub record TakesInflow (l : Book) (day : OpenDay) (inflow rate : ℕ) : Type 0 w
   pub running : is_open l.phase day.number ≡ true
   pub enough : loss_of inflow rate + metered_sum l.traders ≤ inflow
 
-pub takes_inflow : (l : Book) (day : OpenDay) (inflow rate : ℕ) → measurement_fault l day inflow rate ≡ None → TakesInflow l day inflow rate
+pub takes_inflow : (l : Book) (day : OpenDay) (inflow rate : ℕ) →
+    measurement_fault l day inflow rate ≡ None → TakesInflow l day inflow rate
 takes_inflow l day inflow rate e =
     let a = no_ground _ _ _ e in
     let b = no_ground _ _ _ a.1 in
@@ -109,7 +113,8 @@ pub record Sharable (l : Book) (day : MeasuredDay) (s : List Point) (segments : 
   pub free : list_all is_free (take l.counts.points s) ≡ true
   pub served : list_all (is_served segments) (take l.counts.points s) ≡ true
 
-pub sharable : (l : Book) (day : MeasuredDay) (s : List Point) (segments uses shares : ℕ) → share_out_grounds l s day segments uses shares ≡ None → Sharable l day s segments
+pub sharable : (l : Book) (day : MeasuredDay) (s : List Point) (segments uses shares : ℕ) →
+    share_out_grounds l s day segments uses shares ≡ None → Sharable l day s segments
 sharable l day s segments uses shares e =
     let a = no_ground _ _ _ e in
     let b = no_ground _ _ _ a.1 in
@@ -126,12 +131,14 @@ sharable l day s segments uses shares e =
     }
 
 -- a share-out is refused by one of its first grounds, or for want of weight
-neither : (o : Option Refusal) (b : Bool) (w : Refusal) → unless o (cond b (Some w) None) o ≡ None → (o ≡ None) × (b ≡ false)
+neither : (o : Option Refusal) (b : Bool) (w : Refusal) → unless o (cond b (Some w) None) o ≡ None →
+    (o ≡ None) × (b ≡ false)
 neither None true w e = some_none w e
 neither None false w e = (refl, refl)
 neither (Some v) b w e = some_none v e
 
-pub shares_out : (l : Book) (s : List Point) (day : MeasuredDay) (m : ShareOutInputs) → share_out_fault l s day m ≡ None →
+pub shares_out : (l : Book) (s : List Point) (day : MeasuredDay) (m : ShareOutInputs) →
+    share_out_fault l s day m ≡ None →
     Sharable l day s m.segments × (has_no_weight l s m.tells ≡ false)
 shares_out l s day m e =
     let both = neither (first_grounds l s day m) (has_no_weight l s m.tells) NoWeight e in

@@ -17,9 +17,11 @@ pub record PointThere (l : Book) (s : List Point) (k : ℕ) : Type 0 where
   pub short : length s ≤ max_points
   pub admitted : k < l.counts.points
 
-point_there : (l : Book) (s : List Point) (k : ℕ) → not (sheet_fits l.counts.points s) ≡ false → leb l.counts.points k ≡ false → PointThere l s k
+point_there : (l : Book) (s : List Point) (k : ℕ) → not (sheet_fits l.counts.points s) ≡ false →
+    leb l.counts.points k ≡ false → PointThere l s k
 point_there l s k fits there =
-    let f = and_parts (leb l.counts.points (length s)) (leb (length s) max_points) (not-false _ fits) in
+    let f = and_parts (leb l.counts.points (length s)) (leb (length s) max_points)
+    (not-false _ fits) in
     record { room = leb-true _ _ f.0; short = leb-true _ _ f.1; admitted = leb-false _ _ there }
 
 -- this number is the row's open slip
@@ -39,7 +41,8 @@ pub record Reads (l : Book) (s : List Point) (k reading : ℕ) : Type 0 where
   pub free : (row_at s k).slip ≡ 0
   pub left : l.counts.readings < max_readings
 
-pub reads : (l : Book) (s : List Point) (k reading : ℕ) → reading_fault l s k reading ≡ None → Reads l s k reading
+pub reads : (l : Book) (s : List Point) (k reading : ℕ) → reading_fault l s k reading ≡ None →
+    Reads l s k reading
 reads l s k reading e =
     let a = no_ground _ _ _ e in
     let b = no_ground _ _ _ a.1 in
@@ -62,11 +65,14 @@ pub record Books (l : Book) (s : List Point) (slip : Slip) : Type 0 where
   pub held : OpenSlip (row_at s slip.point) slip.number
   pub left : l.counts.bookings < l.counts.readings
 
-bookable : (l : Book) (s : List Point) (slip : Slip) → PointThere l s slip.point → not (may_book l.counts.traders (row_at s slip.point)) ≡ false → is_unbookable l s slip ≡ false → Books l s slip
+bookable : (l : Book) (s : List Point) (slip : Slip) → PointThere l s slip.point →
+    not (may_book l.counts.traders (row_at s slip.point)) ≡ false → is_unbookable l s slip ≡ false →
+    Books l s slip
 bookable l s slip there may none =
     let row = row_at s slip.point in
     let a = and_parts (row_fits row) (ltb row.trader l.counts.traders) (not-false _ may) in
-    let b = or_parts (not (is_slip_of row slip.number)) (leb l.counts.readings l.counts.bookings) none in
+    let b = or_parts (not (is_slip_of row slip.number))
+    (leb l.counts.readings l.counts.bookings) none in
     record {
       there = there;
       ranges = a.0;
@@ -75,7 +81,8 @@ bookable l s slip there may none =
       left = leb-false _ _ b.1;
     }
 
-pub books : (l : Book) (s : List Point) (slip : Slip) → booking_fault l s slip ≡ None → Books l s slip
+pub books : (l : Book) (s : List Point) (slip : Slip) → booking_fault l s slip ≡ None →
+    Books l s slip
 books l s slip e =
     let a = no_ground _ _ _ e in
     let b = no_ground _ _ _ a.1 in
@@ -88,7 +95,8 @@ pub record HandsOver (l : Book) (s : List Point) (slip : Slip) (t : ℕ) : Type 
   pub trader : t < l.counts.traders
   pub other : (row_at s slip.point).trader ≢ t
 
-pub hands_over : (l : Book) (s : List Point) (slip : Slip) (t : ℕ) → hand_over_fault l s slip t ≡ None → HandsOver l s slip t
+pub hands_over : (l : Book) (s : List Point) (slip : Slip) (t : ℕ) →
+    hand_over_fault l s slip t ≡ None → HandsOver l s slip t
 hands_over l s slip t e =
     let a = no_ground _ _ _ e in
     let b = no_ground _ _ _ a.1 in
@@ -106,7 +114,8 @@ pub record Withdraws (l : Book) (s : List Point) (slip : Slip) : Type 0 where
   pub there : PointThere l s slip.point
   pub held : OpenSlip (row_at s slip.point) slip.number
 
-pub withdraws : (l : Book) (s : List Point) (slip : Slip) → withdrawal_fault l s slip ≡ None → Withdraws l s slip
+pub withdraws : (l : Book) (s : List Point) (slip : Slip) → withdrawal_fault l s slip ≡ None →
+    Withdraws l s slip
 withdraws l s slip e =
     let a = no_ground _ _ _ e in
     let b = no_ground _ _ _ a.1 in

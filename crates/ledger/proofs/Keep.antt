@@ -35,14 +35,16 @@ new_sound first =
       places = refl;
       traders = omega arith;
       points = omega arith;
-      metered = let e = sum_by-replicate (λ (u : Trader). u.metered) max_traders no_trader in omega arith;
+      metered = let e = sum_by-replicate (λ (u : Trader). u.metered) max_traders no_trader in
+          omega arith;
       day = eq-eqb _ 0 (sum_by-replicate (λ (u : Trader). u.metered) max_traders no_trader);
       opened = omega arith;
       shared = omega arith;
       readings = omega arith;
       bookings = omega arith;
       losses = omega arith;
-      accounts = λ t. subst (λ (u : Trader). IsWithin u.account 0) (sym (new_at max_traders t)) near_none;
+      accounts = λ t. subst (λ (u : Trader). IsWithin u.account 0)
+          (sym (new_at max_traders t)) near_none;
       corrections = near_none;
     }
 
@@ -71,7 +73,8 @@ admit_sound l s h =
 
 -- A point.
 
-pub point_sound : (l : Book) (s : List Point) (g : Particulars) → IsSound l → IsSound (point_admission l s g).book
+pub point_sound : (l : Book) (s : List Point) (g : Particulars) → IsSound l →
+    IsSound (point_admission l s g).book
 point_sound l s g h =
     by_unless IsSound (point_admission_fault l s g) _ l
     (λ e.
@@ -96,7 +99,8 @@ point_sound l s g h =
 
 -- A day opened.
 
-pub open_sound : (l : Book) (s : List Point) (weather : Weather) → IsSound l → IsSound (opening l s weather).book
+pub open_sound : (l : Book) (s : List Point) (weather : Weather) → IsSound l →
+    IsSound (opening l s weather).book
 open_sound l s weather h =
     by_unless IsSound (opening_fault l weather) _ l
     (λ e.
@@ -122,12 +126,14 @@ open_sound l s weather h =
 -- Litres entered.
 
 -- an open day's figures do not hang on what was metered
-open_holds : (ph : Phase) (k m m' next : ℕ) → is_open ph k ≡ true → day_adds_up ph m next ≡ true → day_adds_up ph m' next ≡ true
+open_holds : (ph : Phase) (k m m' next : ℕ) → is_open ph k ≡ true → day_adds_up ph m next ≡ true →
+    day_adds_up ph m' next ≡ true
 open_holds Idle k m m' next e h = absurd (false≢true e)
 open_holds (Open n w) k m m' next e h = h
 open_holds (Measured n w g x q) k m m' next e h = absurd (false≢true e)
 
-pub enter_sound : (l : Book) (s : List Point) (day : OpenDay) (t litres : ℕ) → IsSound l → IsSound (metered_entry l s day t litres).book
+pub enter_sound : (l : Book) (s : List Point) (day : OpenDay) (t litres : ℕ) → IsSound l →
+    IsSound (metered_entry l s day t litres).book
 enter_sound l s day t litres h =
     by_unless IsSound (entry_fault l day t litres) _ l
     (λ e.
@@ -148,7 +154,8 @@ enter_sound l s day t litres h =
       readings = h.readings;
       bookings = h.bookings;
       losses = h.losses;
-      accounts = λ u. subst (λ (z : ℤ). IsWithin z (account_limit l.counts)) (sym (account_entered l.traders t litres u)) (h.accounts u);
+      accounts = λ u. subst (λ (z : ℤ). IsWithin z (account_limit l.counts))
+          (sym (account_entered l.traders t litres u)) (h.accounts u);
       corrections = h.corrections;
     })
     h
@@ -156,7 +163,8 @@ enter_sound l s day t litres h =
 -- The inflow taken.
 
 -- an open day lies in the calendar, and is to be ended
-pub open_calendar : (ph : Phase) (k m next : ℕ) → is_open ph k ≡ true → day_adds_up ph m next ≡ true → leb next last_day ≡ true
+pub open_calendar : (ph : Phase) (k m next : ℕ) → is_open ph k ≡ true →
+    day_adds_up ph m next ≡ true → leb next last_day ≡ true
 open_calendar Idle k m next e h = absurd (false≢true e)
 open_calendar (Open n w) k m next e h = h
 open_calendar (Measured n w g x q) k m next e h = absurd (false≢true e)
@@ -170,7 +178,8 @@ open_pending (Measured n w g x q) k e = absurd (false≢true e)
 whole_again : (g x m : ℕ) → x + m ≤ g → g - x - m + x + m ≡ g
 whole_again g x m h = omega arith
 
-pub inflow_sound : (l : Book) (s : List Point) (day : OpenDay) (inflow rate : ℕ) → IsSound l → IsSound (measurement l s day inflow rate).book
+pub inflow_sound : (l : Book) (s : List Point) (day : OpenDay) (inflow rate : ℕ) → IsSound l →
+    IsSound (measurement l s day inflow rate).book
 inflow_sound l s day inflow rate h =
     by_unless IsSound (measurement_fault l day inflow rate) _ l
     (λ e.
@@ -184,7 +193,8 @@ inflow_sound l s day inflow rate h =
       points = h.points;
       metered = h.metered;
       day =
-          and_from (eqb (quantity_of inflow rate m + loss_of inflow rate + m) inflow) (leb inflow max_litres && leb l.next_day last_day)
+          and_from (eqb (quantity_of inflow rate m + loss_of inflow rate + m) inflow)
+          (leb inflow max_litres && leb l.next_day last_day)
           (eq-eqb _ _ (whole_again inflow (loss_of inflow rate) m t.enough))
           (and_from (leb inflow max_litres) (leb l.next_day last_day) (le-leb _ _ t.small)
           (open_calendar l.phase day.number m l.next_day t.running h.day));
@@ -201,8 +211,15 @@ inflow_sound l s day inflow rate h =
 -- A day ended.
 
 -- between days: no trader has metered litres, and the accounts are in their reach
-idle_sound : (f : Trader → Trader) → ((t : Trader) → (f t).metered ≡ 0) → (ts : List Trader) (l : Book) → length ts ≡ max_traders → l.traders ≡ map f ts → l.phase ≡ Idle → l.counts.traders ≤ max_traders → l.counts.points ≤ 4096 → l.counts.opened ≤ max_opened → l.counts.shared ≤ max_shared → l.counts.readings ≤ 1_000_000 → l.counts.bookings ≤ l.counts.readings → l.loss ≤ l.counts.shared * max_litres → ((t : ℕ) → IsWithin (account_at (map f ts) t) (account_limit l.counts)) → IsWithin l.correction (l.counts.bookings * 5_000_000_000_000) → IsSound l
-idle_sound f z ts l places e i traders points opened shared readings bookings losses accounts corrections =
+idle_sound : (f : Trader → Trader) → ((t : Trader) → (f t).metered ≡ 0) →
+    (ts : List Trader) (l : Book) → length ts ≡ max_traders → l.traders ≡ map f ts →
+    l.phase ≡ Idle → l.counts.traders ≤ max_traders → l.counts.points ≤ 4096 →
+    l.counts.opened ≤ max_opened → l.counts.shared ≤ max_shared → l.counts.readings ≤ 1_000_000 →
+    l.counts.bookings ≤ l.counts.readings → l.loss ≤ l.counts.shared * max_litres →
+    ((t : ℕ) → IsWithin (account_at (map f ts) t) (account_limit l.counts)) →
+    IsWithin l.correction (l.counts.bookings * 5_000_000_000_000) → IsSound l
+idle_sound f z ts l places e i traders points opened shared readings bookings losses accounts
+    corrections =
     let none : metered_sum l.traders ≡ 0 = ap metered_sum e ∙ metered_sum_none f z ts in
     let due : running_days l.phase ≡ 0 = ap running_days i in
     record {
@@ -210,26 +227,32 @@ idle_sound f z ts l places e i traders points opened shared readings bookings lo
       traders = traders;
       points = points;
       metered = omega arith;
-      day = ap (λ (ph : Phase). day_adds_up ph (metered_sum l.traders) l.next_day) i ∙ eq-eqb _ 0 none;
+      day = ap (λ (ph : Phase). day_adds_up ph (metered_sum l.traders) l.next_day) i
+          ∙ eq-eqb _ 0 none;
       opened = opened;
       shared = omega arith;
       readings = readings;
       bookings = bookings;
       losses = losses;
-      accounts = λ t. subst (λ u. IsWithin (account_at u t) (account_limit l.counts)) (sym e) (accounts t);
+      accounts = λ t. subst (λ u. IsWithin (account_at u t) (account_limit l.counts)) (sym e)
+          (accounts t);
       corrections = corrections;
     }
 
 pub ended_sound : (l : Book) → IsSound l → IsSound (ended_book l)
 ended_sound l h =
     let few = h.shared in
-    idle_sound unmetered_trader (λ t. refl) l.traders (ended_book l) h.places refl refl h.traders h.points h.opened (omega arith)
+    idle_sound unmetered_trader (λ t. refl) l.traders
+    (ended_book l) h.places refl refl h.traders h.points h.opened (omega arith)
     h.readings h.bookings h.losses
-    (λ t. subst (λ (z : ℤ). IsWithin z (account_limit l.counts)) (sym (account_unmetered l.traders t)) (h.accounts t))
+    (λ t. subst (λ (z : ℤ). IsWithin z (account_limit l.counts))
+    (sym (account_unmetered l.traders t)) (h.accounts t))
     h.corrections
 
-pub abandon_sound : (l : Book) (s : List Point) (day : DayToken) → IsSound l → IsSound (abandonment l s day day).book
-abandon_sound l s day h = by_unless IsSound (abandonment_fault l day) (ended_book l) l (λ e. ended_sound l h) h
+pub abandon_sound : (l : Book) (s : List Point) (day : DayToken) → IsSound l →
+    IsSound (abandonment l s day day).book
+abandon_sound l s day h = by_unless IsSound (abandonment_fault l day) (ended_book l) l
+    (λ e. ended_sound l h) h
 
 -- A day shared out.
 
@@ -238,7 +261,8 @@ pub shares_within : {rule : Rule} → IsShareRule rule → (q : ℕ) (ws : List 
 shares_within {rule} law q ws =
     ⊎_elim
     (λ yes. let e = law.whole q ws yes in omega arith)
-    (λ no. let e : sum (rule q ws) ≡ length ws * 0 = ap sum (law.refused q ws no) ∙ sum_by-replicate (λ (n : ℕ). n) (length ws) 0 in omega arith)
+    (λ no. let e : sum (rule q ws) ≡ length ws * 0 = ap sum (law.refused q ws no)
+    ∙ sum_by-replicate (λ (n : ℕ). n) (length ws) 0 in omega arith)
     (cases_Bool (fair q ws))
 
 -- what is known of a measured day
@@ -247,7 +271,8 @@ pub record DayIs (ph : Phase) (m next : ℕ) : Type 0 where
   pub calendar : next ≤ last_day
   pub due : running_days ph ≡ 1
 
-pub measured_is : (ph : Phase) (k m next : ℕ) → is_measured ph k ≡ true → day_adds_up ph m next ≡ true → DayIs ph m next
+pub measured_is : (ph : Phase) (k m next : ℕ) → is_measured ph k ≡ true →
+    day_adds_up ph m next ≡ true → DayIs ph m next
 measured_is Idle k m next e h = absurd (false≢true e)
 measured_is (Open n w) k m next e h = absurd (false≢true e)
 measured_is (Measured n w g x q) k m next e h =
@@ -258,7 +283,8 @@ measured_is (Measured n w g x q) k m next e h =
     record { whole = omega arith; calendar = leb-true _ _ b.1; due = refl }
 
 -- the accounts before the metered sums are settled
-pub settling : (l : Book) (s : List Point) (shares : List ℕ) (i : ℕ) → IsSound l → sum shares ≤ max_litres → CanSettle (with_shares l.traders s shares i)
+pub settling : (l : Book) (s : List Point) (shares : List ℕ) (i : ℕ) → IsSound l →
+    sum shares ≤ max_litres → CanSettle (with_shares l.traders s shares i)
 settling l s shares i h few =
     let ts = l.traders in
     record {
@@ -279,15 +305,19 @@ settling l s shares i h few =
           omega (arith, ints);
     }
 
-pub shared_sound : (l : Book) (s : List Point) (shares : List ℕ) → IsSound l → running_days l.phase ≡ 1 → sum shares + day_loss l.phase + metered_sum l.traders ≤ max_litres → IsSound (shared_book l s shares)
+pub shared_sound : (l : Book) (s : List Point) (shares : List ℕ) → IsSound l →
+    running_days l.phase ≡ 1 → sum shares + day_loss l.phase + metered_sum l.traders ≤ max_litres →
+    IsSound (shared_book l s shares)
 shared_sound l s shares h due total =
     let ts = l.traders in
     let n = l.counts.points in
     let credits = with_shares ts s shares n in
     let few = h.shared in
     let lost = h.losses in
-    let up : account_limit l.counts + max_litres ≤ account_limit (shared_book l s shares).counts = omega arith in
-    idle_sound settled_trader (λ t. refl) credits (shared_book l s shares) (length_credited_to ts s shares n ∙ h.places) refl refl h.traders
+    let up : account_limit l.counts + max_litres ≤ account_limit
+    (shared_book l s shares).counts = omega arith in
+    idle_sound settled_trader (λ t. refl) credits (shared_book l s shares)
+    (length_credited_to ts s shares n ∙ h.places) refl refl h.traders
     h.points h.opened (omega arith) h.readings h.bookings (omega arith)
     (λ t.
     let a = near_credited_to ts s shares n (account_limit l.counts) h.accounts t in
@@ -295,11 +325,13 @@ shared_sound l s shares h due total =
     let e = metered_credited_to ts s shares n t in
     let c = metered_le ts t in
     let y = metered_at credits t in
-    subst (λ (z : ℤ). IsWithin z (account_limit (shared_book l s shares).counts)) (sym (account_settled credits t))
+    subst (λ (z : ℤ). IsWithin z (account_limit (shared_book l s shares).counts))
+    (sym (account_settled credits t))
     (near_more _ _ _ (near_add (account_at credits t) (pos y) _ y a (near_pos y)) (omega arith)))
     h.corrections
 
-pub share_sound : (l : Book) (s : List Point) (day : MeasuredDay) (m : ShareOutInputs) → IsShareRule m.rule → IsSound l → IsSound (share_out l s day m).book
+pub share_sound : (l : Book) (s : List Point) (day : MeasuredDay) (m : ShareOutInputs) →
+    IsShareRule m.rule → IsSound l → IsSound (share_out l s day m).book
 share_sound l s day m law h =
     let shares = day_shares l s m.tells m.rule in
     by_unless IsSound (share_out_fault l s day m) (shared_book l s shares) l

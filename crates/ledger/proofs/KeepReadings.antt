@@ -18,7 +18,8 @@ use Rattle.ledger.proofs.Grounds.{by_unless}
 use Rattle.ledger.proofs.Traders.{near_more, near_add, near_sub, at_set, metered_sum-set}
 use Rattle.rows.specs.Within.{IsWithin}
 
-pub read_sound : (l : Book) (s : List Point) (k reading : ℕ) → IsSound l → IsSound (reading_at l s k reading).book
+pub read_sound : (l : Book) (s : List Point) (k reading : ℕ) → IsSound l →
+    IsSound (reading_at l s k reading).book
 read_sound l s k reading h =
     by_unless IsSound (reading_fault l s k reading) _ l
     (λ e.
@@ -44,14 +45,18 @@ abbrev one_more_booking : Counts → Counts
 one_more_booking c = record c { bookings = c.bookings + 1 }
 
 -- no account comes further than one more booking lets it
-near_booked : (l : Book) (p : Point) → IsSound l → row_fits p ≡ true → (t : ℕ) → IsWithin (account_at (with_credit l.traders p.trader (kept_correction p)) t) (account_limit (one_more_booking l.counts))
+near_booked : (l : Book) (p : Point) → IsSound l → row_fits p ≡ true → (t : ℕ) →
+    IsWithin (account_at (with_credit l.traders p.trader (kept_correction p)) t)
+    (account_limit (one_more_booking l.counts))
 near_booked l p h fits t =
     let far = account_limit (one_more_booking l.counts) in
     at_set (λ (u : Trader). IsWithin u.account far) l.traders p.trader _ t
-    (near_more _ _ far (near_add _ _ _ _ (h.accounts p.trader) (correction_within p fits)) (omega arith))
+    (near_more _ _ far (near_add _ _ _ _ (h.accounts p.trader) (correction_within p fits))
+    (omega arith))
     (near_more _ _ far (h.accounts t) (omega arith))
 
-pub booked_sound : (l : Book) (p : Point) → IsSound l → row_fits p ≡ true → l.counts.bookings < l.counts.readings → IsSound (booked_book l p)
+pub booked_sound : (l : Book) (p : Point) → IsSound l → row_fits p ≡ true →
+    l.counts.bookings < l.counts.readings → IsSound (booked_book l p)
 booked_sound l p h fits left =
     let same = metered_sum-set l.traders p.trader _ refl in
     record {
@@ -67,29 +72,36 @@ booked_sound l p h fits left =
       losses = h.losses;
       accounts = near_booked l p h fits;
       corrections =
-          near_more _ _ ((l.counts.bookings + 1) * max_correction) (near_sub _ _ _ _ h.corrections (correction_within p fits))
+          near_more _ _ ((l.counts.bookings + 1) * max_correction)
+          (near_sub _ _ _ _ h.corrections (correction_within p fits))
           (omega arith);
     }
 
-pub book_sound : (l : Book) (s : List Point) (slip : Slip) → IsSound l → IsSound (booking l s slip).book
+pub book_sound : (l : Book) (s : List Point) (slip : Slip) → IsSound l →
+    IsSound (booking l s slip).book
 book_sound l s slip h =
     by_unless IsSound (booking_fault l s slip) _ l
     (λ e. let b = books l s slip e in booked_sound l (row_at s slip.point) h b.ranges b.left)
     h
 
-pub hand_sound : (l : Book) (s : List Point) (slip : Slip) (t : ℕ) → IsSound l → IsSound (hand_over l s slip t).book
+pub hand_sound : (l : Book) (s : List Point) (slip : Slip) (t : ℕ) → IsSound l →
+    IsSound (hand_over l s slip t).book
 hand_sound l s slip t h =
     by_unless IsSound (hand_over_fault l s slip t) _ l
-    (λ e. let b = (hands_over l s slip t e).books in booked_sound l (row_at s slip.point) h b.ranges b.left)
+    (λ e. let b = (hands_over l s slip t e).books in
+    booked_sound l (row_at s slip.point) h b.ranges b.left)
     h
 
-pub withdraw_sound : (l : Book) (s : List Point) (slip : Slip) → IsSound l → IsSound (withdrawal l s slip).book
+pub withdraw_sound : (l : Book) (s : List Point) (slip : Slip) → IsSound l →
+    IsSound (withdrawal l s slip).book
 withdraw_sound l s slip h = by_unless IsSound (withdrawal_fault l s slip) l l (λ e. h) h
 
 -- The two accounts that a booking moves, as numbers of 64 bits: both fit, and nothing is lost.
 
-module _ (l : Book) (h : IsSound l) (p : Point) (fits : row_fits p ≡ true) (left : l.counts.bookings < l.counts.readings) (by : ℤ) (e : by ≡ kept_correction p)
-    (fz : SFits w64 (account_at l.traders p.trader)) (fc : SFits w64 l.correction) (fb : SFits w64 by) where
+module _ (l : Book) (h : IsSound l) (p : Point) (fits : row_fits p ≡ true)
+    (left : l.counts.bookings < l.counts.readings) (by : ℤ) (e : by ≡ kept_correction p)
+    (fz : SFits w64 (account_at l.traders p.trader)) (fc : SFits w64 l.correction)
+    (fb : SFits w64 by) where
   account_fits : SFits w64 (account_at l.traders p.trader +ℤ by)
   account_fits =
       let k = correction_within p fits in
@@ -114,8 +126,10 @@ module _ (l : Book) (h : IsSound l) (p : Point) (fits : row_fits p ≡ true) (le
       let r = h.readings in
       search (rules, ints)
 
-  pub account_sum_fits : SFits w64 (to_z w64 (of_z w64 (account_at l.traders p.trader)) +ℤ to_z w64 (of_z w64 by))
-  account_sum_fits = rw (to_z-of_z w64 (account_at l.traders p.trader) fz, to_z-of_z w64 by fb) account_fits
+  pub account_sum_fits : SFits w64 (to_z w64 (of_z w64 (account_at l.traders p.trader)) +ℤ to_z w64
+      (of_z w64 by))
+  account_sum_fits = rw (to_z-of_z w64 (account_at l.traders p.trader) fz, to_z-of_z w64 by fb)
+      account_fits
 
   pub rest_difference_fits : SFits w64 (to_z w64 (of_z w64 l.correction) -ℤ to_z w64 (of_z w64 by))
   rest_difference_fits = rw (to_z-of_z w64 l.correction fc, to_z-of_z w64 by fb) rest_fits
@@ -123,18 +137,29 @@ module _ (l : Book) (h : IsSound l) (p : Point) (fits : row_fits p ≡ true) (le
   abbrev with_both : ℤ → ℤ → Book
   with_both x y =
       record l {
-        traders = set l.traders p.trader (record { account = x; metered = metered_at l.traders p.trader });
+        traders = set l.traders p.trader (record {
+          account = x;
+          metered = metered_at l.traders p.trader;
+        });
         counts = one_more_booking l.counts;
         correction = y;
       }
 
-  pub row_booked : with_both (to_z w64 (of_z w64 (to_z w64 (of_z w64 (account_at l.traders p.trader)) +ℤ to_z w64 (of_z w64 by)))) (to_z w64 (of_z w64 (to_z w64 (of_z w64 l.correction) -ℤ to_z w64 (of_z w64 by)))) ≡ booked_book l p
+  pub row_booked : with_both (to_z w64 (of_z w64 (to_z w64
+      (of_z w64 (account_at l.traders p.trader)) +ℤ to_z w64 (of_z w64 by))))
+      (to_z w64 (of_z w64 (to_z w64 (of_z w64 l.correction) -ℤ to_z w64 (of_z w64 by))))
+      ≡ booked_book l p
   row_booked =
       let z = account_at l.traders p.trader in
       let y = to_z w64 (of_z w64 by) in
       let b : y ≡ kept_correction p = to_z-of_z w64 by fb ∙ e in
       let account : to_z w64 (of_z w64 (to_z w64 (of_z w64 z) +ℤ y)) ≡ z +ℤ kept_correction p =
-      to_z-of_z w64 (to_z w64 (of_z w64 z) +ℤ y) account_sum_fits ∙ ap (λ (x : ℤ). x +ℤ y) (to_z-of_z w64 z fz) ∙ ap (λ (x : ℤ). z +ℤ x) b in
-      let rest : to_z w64 (of_z w64 (to_z w64 (of_z w64 l.correction) -ℤ y)) ≡ l.correction -ℤ kept_correction p =
-      to_z-of_z w64 (to_z w64 (of_z w64 l.correction) -ℤ y) rest_difference_fits ∙ ap (λ (x : ℤ). x -ℤ y) (to_z-of_z w64 l.correction fc) ∙ ap (λ (x : ℤ). l.correction -ℤ x) b in
-      ap (λ (x : ℤ). with_both x (to_z w64 (of_z w64 (to_z w64 (of_z w64 l.correction) -ℤ y)))) account ∙ ap (with_both (z +ℤ kept_correction p)) rest
+      to_z-of_z w64 (to_z w64 (of_z w64 z) +ℤ y) account_sum_fits
+      ∙ ap (λ (x : ℤ). x +ℤ y) (to_z-of_z w64 z fz) ∙ ap (λ (x : ℤ). z +ℤ x) b in
+      let rest : to_z w64 (of_z w64 (to_z w64 (of_z w64 l.correction) -ℤ y))
+      ≡ l.correction -ℤ kept_correction p =
+      to_z-of_z w64 (to_z w64 (of_z w64 l.correction) -ℤ y) rest_difference_fits
+      ∙ ap (λ (x : ℤ). x -ℤ y) (to_z-of_z w64 l.correction fc)
+      ∙ ap (λ (x : ℤ). l.correction -ℤ x) b in
+      ap (λ (x : ℤ). with_both x (to_z w64 (of_z w64 (to_z w64 (of_z w64 l.correction) -ℤ y))))
+      account ∙ ap (with_both (z +ℤ kept_correction p)) rest

@@ -28,7 +28,7 @@ pub record WorkSheets : Type 0 where
   pub uses : List ℕ
   pub shares : List ℕ
 
--- what a share-out is handed besides the ledger, its day and its sheet: what the profile tells, the
+-- what a share-out is handed besides the ledger, its day and its sheet: what the profile gives, the
 -- segments that it serves, the rule, and the work sheets
 pub record ShareOutInputs : Type 0 where
   pub tells : Tells

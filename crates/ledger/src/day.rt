@@ -21,7 +21,8 @@ impl OpenDay {
     pub fn number(&self) -> u32
         ensures { result ≡ self.now.number }
     {
-        self.number
+        let OpenDay { number } = self;
+        *number
     }
 }
 
@@ -30,7 +31,8 @@ impl MeasuredDay {
     pub fn number(&self) -> u32
         ensures { result ≡ self.now.number }
     {
-        self.number
+        let MeasuredDay { number } = self;
+        *number
     }
 }
 

@@ -85,7 +85,8 @@ pub consumption_small : (p : Point) → row_fits p ≡ true → kept_consumption
 consumption_small p e = mul-le-mul (dial_advance_small p e) (tested_row p e).particulars.litres_most
 
 -- consumption and open sum are both at most what a booking can move
-pub correction_within : (p : Point) → row_fits p ≡ true → IsWithin (kept_correction p) max_correction
+pub correction_within : (p : Point) → row_fits p ≡ true →
+    IsWithin (kept_correction p) max_correction
 correction_within p e =
     let a = consumption_small p e in
     let b = (tested_row p e).open_sum in

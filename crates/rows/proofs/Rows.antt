@@ -27,7 +27,8 @@ pub row_of_all : (test : Point → Bool) (s : List Point) (n k : ℕ) →
 row_of_all test s zero k e r h = absurd (let q : ⊥ = omega arith in q)
 row_of_all test s (suc n) k e r h =
     let more : list_all test (take (n + 1) s) ≡ true = rw add-one e in
-    let both = and_parts (list_all test (take n s)) (test (row_at s n)) (sym (list_all-take-more test s n (omega arith)) ∙ more) in
+    let both = and_parts (list_all test (take n s)) (test (row_at s n))
+    (sym (list_all-take-more test s n (omega arith)) ∙ more) in
     ⊎_elim
     (λ lt. row_of_all test s n k both.0 (omega arith) lt)
     (λ ge. let q : n ≡ k = omega arith in subst (λ (j : ℕ). test (row_at s j) ≡ true) q both.1)
@@ -39,7 +40,8 @@ all_of_rows test s zero r f = refl
 all_of_rows test s (suc n) r f =
     rw (← add-one)
     (list_all-take-more test s n (omega arith)
-    ∙ and_from (list_all test (take n s)) (test (row_at s n)) (all_of_rows test s n (omega arith) (λ k h. f k (omega arith))) (f n (omega arith)))
+    ∙ and_from (list_all test (take n s)) (test (row_at s n))
+    (all_of_rows test s n (omega arith) (λ k h. f k (omega arith))) (f n (omega arith)))
 
 -- The rows once their shares were written.
 
@@ -48,14 +50,17 @@ module _ (factors : ℕ → Factors) (s : List Point) (shares : List ℕ) where
   unfolding shared_rows
   shared_rows_none = refl
 
-  pub shared_rows_more : (i : ℕ) → set (shared_rows factors s shares i) i (shared_row (row_at s i) (get_or shares i 0) (factors (row_at s i).segment).multiplier) ≡ shared_rows factors s shares (i + 1)
+  pub shared_rows_more : (i : ℕ) → set (shared_rows factors s shares i) i
+      (shared_row (row_at s i) (get_or shares i 0) (factors (row_at s i).segment).multiplier)
+      ≡ shared_rows factors s shares (i + 1)
   unfolding shared_rows
   shared_rows_more i = rw add-one refl
 
   pub length_shared_rows : (i : ℕ) → length (shared_rows factors s shares i) ≡ length s
   unfolding shared_rows
   length_shared_rows zero = refl
-  length_shared_rows (suc i) = length-set (shared_rows factors s shares i) i _ ∙ length_shared_rows i
+  length_shared_rows (suc i) = length-set (shared_rows factors s shares i) i _
+      ∙ length_shared_rows i
 
   -- a row whose turn has not come yet
   pub shared_rows_later : (i k : ℕ) → i ≤ k → row_at (shared_rows factors s shares i) k ≡ row_at s k
@@ -63,36 +68,49 @@ module _ (factors : ℕ → Factors) (s : List Point) (shares : List ℕ) where
   shared_rows_later zero k h = refl
   shared_rows_later (suc i) k h =
       let ne : k ≢ i = omega arith in
-      get_or-set_other (shared_rows factors s shares i) i k _ no_row ne ∙ shared_rows_later i k (omega arith)
+      get_or-set_other (shared_rows factors s shares i) i k _ no_row ne
+      ∙ shared_rows_later i k (omega arith)
 
   -- a row that has had its turn
-  pub row_shared_rows : (n k : ℕ) → n ≤ length s → k < n → row_at (shared_rows factors s shares n) k ≡ shared_row (row_at s k) (get_or shares k 0) (factors (row_at s k).segment).multiplier
+  pub row_shared_rows : (n k : ℕ) → n ≤ length s → k < n →
+      row_at (shared_rows factors s shares n) k ≡ shared_row (row_at s k) (get_or shares k 0)
+      (factors (row_at s k).segment).multiplier
   unfolding shared_rows
   row_shared_rows zero k h q = absurd (let z : ⊥ = omega arith in z)
   row_shared_rows (suc n) k h q =
-      let x : ℕ → Point = λ j. shared_row (row_at s j) (get_or shares j 0) (factors (row_at s j).segment).multiplier in
+      let x : ℕ → Point = λ j. shared_row (row_at s j) (get_or shares j 0)
+      (factors (row_at s j).segment).multiplier in
       let before = shared_rows factors s shares n in
       let len = length_shared_rows n in
       ⊎_elim
-      (λ lt. let ne : k ≢ n = omega arith in get_or-set_other before n k (x n) no_row ne ∙ row_shared_rows n k (omega arith) lt)
+      (λ lt. let ne : k ≢ n = omega arith in get_or-set_other before n k (x n) no_row ne
+      ∙ row_shared_rows n k (omega arith) lt)
       (λ ge.
       let e : n ≡ k = omega arith in
       let w : n < length before = omega arith in
-      subst (λ (j : ℕ). row_at (set before n (x n)) j ≡ x j) e (get_or-set_same before n (x n) no_row w))
+      subst (λ (j : ℕ). row_at (set before n (x n)) j ≡ x j) e
+      (get_or-set_same before n (x n) no_row w))
       (cases_lt k n)
 
 -- the first n rows, taken as a list of their own with its own shares
-pub shared_rows_part : (factors : ℕ → Factors) (s : List Point) (shares : List ℕ) (n k : ℕ) → n ≤ length s → k ≤ n → shared_rows factors (take n s) (take n shares) k ++ drop n s ≡ shared_rows factors s shares k
+pub shared_rows_part : (factors : ℕ → Factors) (s : List Point) (shares : List ℕ) (n k : ℕ) →
+    n ≤ length s → k ≤ n → shared_rows factors (take n s) (take n shares) k ++ drop n s
+    ≡ shared_rows factors s shares k
 unfolding shared_rows
 shared_rows_part factors s shares n zero r h = take-append-drop n s
 shared_rows_part factors s shares n (suc k) r h =
     let x : Point → ℕ → Point = λ p q. shared_row p q (factors p.segment).multiplier in
     let before = shared_rows factors (take n s) (take n shares) k in
-    let len : length before ≡ n = length_shared_rows factors (take n s) (take n shares) k ∙ length-take-le n s r in
-    sym (set-append_left before (drop n s) k (x (row_at (take n s) k) (get_or (take n shares) k 0)) (omega arith))
-    ∙ ap (λ u. set u k (x (row_at (take n s) k) (get_or (take n shares) k 0))) (shared_rows_part factors s shares n k r (omega arith))
-    ∙ ap (λ (p : Point). set (shared_rows factors s shares k) k (x p (get_or (take n shares) k 0))) (get_or-take n s k no_row (omega arith))
-    ∙ ap (λ (q : ℕ). set (shared_rows factors s shares k) k (x (row_at s k) q)) (get_or-take n shares k 0 (omega arith))
+    let len : length before ≡ n = length_shared_rows factors (take n s) (take n shares) k
+    ∙ length-take-le n s r in
+    sym (set-append_left before (drop n s) k (x (row_at (take n s) k) (get_or (take n shares) k 0))
+    (omega arith))
+    ∙ ap (λ u. set u k (x (row_at (take n s) k) (get_or (take n shares) k 0)))
+    (shared_rows_part factors s shares n k r (omega arith))
+    ∙ ap (λ (p : Point). set (shared_rows factors s shares k) k (x p (get_or (take n shares) k 0)))
+    (get_or-take n s k no_row (omega arith))
+    ∙ ap (λ (q : ℕ). set (shared_rows factors s shares k) k (x (row_at s k) q))
+    (get_or-take n shares k 0 (omega arith))
 
 -- rows that can be summed for a trader have open sums within their limit
 pub open_sums_small : (t : ℕ) (rows : List Point) → list_all (is_summable t) rows ≡ true →

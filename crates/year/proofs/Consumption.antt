@@ -1,4 +1,5 @@
--- Each point's shares and corrections are the consumption of its booked readings and its shares since
+-- Each point's shares and corrections are the consumption of its booked readings and its shares
+-- since
 -- the last of them.
 use Rattle.std.proofs.Common.{◌≡◌, ℕ, ◌+◌, Bool, cond, List, [], ◌∷◌, get_or, pos, ◌+ℤ◌, refl, ap, arith}
 use Rattle.std.proofs.lemmas.Int.{ints}
@@ -12,7 +13,8 @@ use Rattle.year.specs.Quantities.{shares_of, shares_since, consumption_at, consu
 
 abbrev pub Consumed : List Settlement → Type 0
 Consumed c =
-    (j : ℕ) → pos (shares_of c j) +ℤ corrections_of c j ≡ pos (consumption_of c j) +ℤ pos (shares_since c j)
+    (j : ℕ) → pos (shares_of c j) +ℤ corrections_of c j
+    ≡ pos (consumption_of c j) +ℤ pos (shares_since c j)
 
 pub consumed_none : Consumed []
 unfolding shares_since consumption_of signed_sum_by
@@ -22,16 +24,20 @@ pub consumed_joined : (g : Particulars) (c : List Settlement) → Consumed c →
 unfolding shares_since consumption_of
 consumed_joined g c h j = h j
 
-pub consumed_shared : (c : List Settlement) (d : SharedDay) → Consumed c → Consumed (DayShared d ∷ c)
+pub consumed_shared : (c : List Settlement) (d : SharedDay) → Consumed c →
+    Consumed (DayShared d ∷ c)
 unfolding shares_since consumption_of
 consumed_shared c d h j =
     let old = h j in
     let x = get_or d.shares j 0 in
     let more = sum_by-cons (λ (e : SharedDay). get_or e.shares j 0) d (days_in c) in
-    let r : pos (shares_of (DayShared d ∷ c) j) +ℤ corrections_of c j ≡ pos (consumption_of c j) +ℤ pos (shares_since c j + x) = omega (arith, ints) in
+    let r : pos (shares_of (DayShared d ∷ c) j) +ℤ corrections_of c j
+    ≡ pos (consumption_of c j) +ℤ pos (shares_since c j + x) = omega (arith, ints) in
     r
 
-pub consumed_booked : (c : List Settlement) (b : Booking) → b.correction ≡ correction_of (consumption_at c b.point b.reading) (shares_since c b.point) → Consumed c → Consumed (ReadingBooked b ∷ c)
+pub consumed_booked : (c : List Settlement) (b : Booking) →
+    b.correction ≡ correction_of (consumption_at c b.point b.reading) (shares_since c b.point) →
+    Consumed c → Consumed (ReadingBooked b ∷ c)
 unfolding shares_since consumption_of signed_sum_by
 consumed_booked c b is h j =
     let old = h j in
@@ -42,9 +48,11 @@ consumed_booked c b is h j =
     let had = consumption_of c j in
     let read = consumption_at c k b.reading in
     by_eqb j k
-    (λ (e : Bool). pos given +ℤ (cond e z (pos 0) +ℤ before) ≡ pos (cond e (had + read) had) +ℤ pos (cond e 0 (shares_since c j)))
+    (λ (e : Bool). pos given +ℤ (cond e z (pos 0) +ℤ before)
+    ≡ pos (cond e (had + read) had) +ℤ pos (cond e 0 (shares_since c j)))
     (λ e.
     let since : shares_since c j ≡ shares_since c k = ap (shares_since c) e in
     let r : pos given +ℤ (z +ℤ before) ≡ pos (had + read) +ℤ pos 0 = omega (arith, ints) in
     r)
-    (λ ne. let r : pos given +ℤ (pos 0 +ℤ before) ≡ pos had +ℤ pos (shares_since c j) = omega (arith, ints) in r)
+    (λ ne. let r : pos given +ℤ (pos 0 +ℤ before) ≡ pos had +ℤ pos (shares_since c j) = omega
+    (arith, ints) in r)

@@ -27,10 +27,14 @@ abbrev pub weights : List Settlement → SharedDay → ℕ → List ℕ
 weights c d n = map (weight_of c d) (range_with_len 0 n)
 
 -- what the share-out works out from the rows is what the settlements give
-pub consumptions_are : (c : List Settlement) (d : SharedDay) (factors : ℕ → Factors) (n : ℕ) (s : List Point) → n ≤ length s → ((k : ℕ) → factors k ≡ d.tells k d.day.weather) → ((k : ℕ) → k < n → RowAgrees c k (row_at s k)) → profile_consumptions factors (take n s) ≡ weights c d n
+pub consumptions_are : (c : List Settlement) (d : SharedDay) (factors : ℕ → Factors) (n : ℕ)
+    (s : List Point) → n ≤ length s → ((k : ℕ) → factors k ≡ d.tells k d.day.weather) →
+    ((k : ℕ) → k < n → RowAgrees c k (row_at s k)) →
+    profile_consumptions factors (take n s) ≡ weights c d n
 consumptions_are c d factors n s room is rows =
     let f : Point → ℕ = λ p. profile_consumption p.scale_factor (factors p.segment).day in
-    let long : length (take n s) ≡ n = length-take n s ∙ (let m : min n (length s) ≡ n = omega arith in m) in
+    let long : length (take n s) ≡ n = length-take n s
+    ∙ (let m : min n (length s) ≡ n = omega arith in m) in
     fill_by_all (weight_of c d) (map f (take n s)) n 0 (length-map (take n s) f ∙ long)
     (λ k h.
     let a = rows k h in
@@ -43,19 +47,23 @@ consumptions_are c d factors n s room is rows =
     ∙ ap (λ (x : ℕ). profile_consumption x (factors p.segment).day) a.scale
     ∙ ap (profile_consumption (scale_factor_of c k)) same)
 
-consumption_small : (scale factor : ℕ) → scale ≤ 2_000_000 → factor ≤ 10_000_000 → profile_consumption scale factor ≤ max_weight
+consumption_small : (scale factor : ℕ) → scale ≤ 2_000_000 → factor ≤ 10_000_000 →
+    profile_consumption scale factor ≤ max_weight
 consumption_small scale factor h k =
     let a = mul-le-mul h k in
     let b : scale * factor ≤ 10_000_000 * 2_000_000 = omega arith in
     div-le_of_le-mul 10_000_000 b
 
-pub weight_small : (c : List Settlement) (d : SharedDay) (k : ℕ) (p : Point) → TellsFactors d.tells → RowAgrees c k p → is_fit p ≡ true → weight_of c d k ≤ max_weight
+pub weight_small : (c : List Settlement) (d : SharedDay) (k : ℕ) (p : Point) →
+    TellsFactors d.tells → RowAgrees c k p → is_fit p ≡ true → weight_of c d k ≤ max_weight
 weight_small c d k p law a f =
     let most = (row_fitting p f).scale_most in
     let same = a.scale in
-    consumption_small (scale_factor_of c k) (factors_for c d k).day (omega arith) (law (given_for c k).segment d.day.weather).1
+    consumption_small (scale_factor_of c k) (factors_for c d k).day (omega arith)
+    (law (given_for c k).segment d.day.weather).1
 
-pub weights_small : (c : List Settlement) (d : SharedDay) (n : ℕ) → ((k : ℕ) → k < n → weight_of c d k ≤ max_weight) → All (λ w. w ≤ max_weight) (weights c d n)
+pub weights_small : (c : List Settlement) (d : SharedDay) (n : ℕ) →
+    ((k : ℕ) → k < n → weight_of c d k ≤ max_weight) → All (λ w. w ≤ max_weight) (weights c d n)
 weights_small c d n small =
     let f = weight_of c d in
     let len = length-map-range_with_len f 0 n in
@@ -71,41 +79,54 @@ weights_small c d n small =
 none_over : (ws : List ℕ) → All (λ w. w ≤ max_weight) ws → count_by (λ w. ltb max_weight w) ws ≡ 0
 none_over [] h = refl
 none_over (w ∷ ws) h =
-    let one : ◌≡◌ {A = ℕ} (cond (ltb max_weight w) 1 0) 0 = ap (λ (b : Bool). cond b 1 0) (le-ltb max_weight w h.0) in
+    let one : ◌≡◌ {A = ℕ} (cond (ltb max_weight w) 1 0) 0 = ap
+    (λ (b : Bool). cond b 1 0) (le-ltb max_weight w h.0) in
     let rest = none_over ws h.1 in
     let sum = sum_by-cons (λ (x : ℕ). cond (ltb max_weight x) 1 0) w ws in
     omega arith
 
-is_fair : (a : ℕ) (ws : List ℕ) → a ≤ max_quantity → length ws ≤ max_weights → All (λ w. w ≤ max_weight) ws → 0 < sum ws → fair a ws ≡ true
+is_fair : (a : ℕ) (ws : List ℕ) → a ≤ max_quantity → length ws ≤ max_weights →
+    All (λ w. w ≤ max_weight) ws → 0 < sum ws → fair a ws ≡ true
 unfolding fair
 is_fair a ws few short small some =
     and_from (leb a max_quantity) _ (le-leb _ _ few)
     (and_from (leb (length ws) max_weights) _ (le-leb _ _ short)
-    (and_from (eqb (count_by (λ w. ltb max_weight w) ws) 0) _ (eq-eqb _ 0 (none_over ws small)) (lt-ltb _ _ some)))
+    (and_from (eqb (count_by (λ w. ltb max_weight w) ws) 0) _ (eq-eqb _ 0 (none_over ws small))
+    (lt-ltb _ _ some)))
 
 -- a lawful rule's shares are in proportion, and zero where nobody has weight
-proportional : (rule : Rule) (a : ℕ) (ws : List ℕ) (k : ℕ) → IsShareRule rule → a ≤ max_quantity → length ws ≤ max_weights → All (λ w. w ≤ max_weight) ws → k < length ws → IsProportional a (sum ws) (get_or ws k 0) (get_or (rule a ws) k 0)
+proportional : (rule : Rule) (a : ℕ) (ws : List ℕ) (k : ℕ) → IsShareRule rule → a ≤ max_quantity →
+    length ws ≤ max_weights → All (λ w. w ≤ max_weight) ws → k < length ws →
+    IsProportional a (sum ws) (get_or ws k 0) (get_or (rule a ws) k 0)
 proportional rule a ws k law few short small h =
     record {
       near = λ some. law.near a ws k (is_fair a ws few short small some) h;
-      none = λ none. ap (λ (xs : List ℕ). get_or xs k 0) (law.refused a ws (weightless a ws none)) ∙ get_or-replicate (length ws) k 0 0 h;
+      none = λ none. ap (λ (xs : List ℕ). get_or xs k 0) (law.refused a ws (weightless a ws none))
+          ∙ get_or-replicate (length ws) k 0 0 h;
     }
 
-pub fair_day : (c : List Settlement) (d : SharedDay) (rule : Rule) → IsShareRule rule → quantity_on d.day ≤ max_quantity → points_in c ≤ max_weights → ((k : ℕ) → k < points_in c → weight_of c d k ≤ max_weight) → d.shares ≡ rule (quantity_on d.day) (weights c d (points_in c)) → IsFairDay c d
+pub fair_day : (c : List Settlement) (d : SharedDay) (rule : Rule) → IsShareRule rule →
+    quantity_on d.day ≤ max_quantity → points_in c ≤ max_weights →
+    ((k : ℕ) → k < points_in c → weight_of c d k ≤ max_weight) →
+    d.shares ≡ rule (quantity_on d.day) (weights c d (points_in c)) → IsFairDay c d
 fair_day c d rule law few short small is k h =
     let n = points_in c in
     let f = weight_of c d in
     let ws = weights c d n in
     let len = length-map-range_with_len f 0 n in
     let at = get_or-map-range_with_len f 0 n k k 0 h (omega arith) in
-    let p = proportional rule (quantity_on d.day) ws k law few (omega arith) (weights_small c d n small) (omega arith) in
+    let p = proportional rule (quantity_on d.day) ws k law few (omega arith)
+    (weights_small c d n small) (omega arith) in
     subst (λ (w : ℕ). IsProportional (quantity_on d.day) (sum ws) w (get_or d.shares k 0)) at
-    (subst (λ (xs : List ℕ). IsProportional (quantity_on d.day) (sum ws) (get_or ws k 0) (get_or xs k 0)) (sym is) p)
+    (subst (λ (xs : List ℕ). IsProportional (quantity_on d.day) (sum ws) (get_or ws k 0)
+    (get_or xs k 0)) (sym is) p)
 
 -- The whole quantity.
 
 -- where there is weight, or nothing to share, the shares come to the quantity
-pub whole_shared : (rule : Rule) (a : ℕ) (ws : List ℕ) → IsShareRule rule → a ≤ max_quantity → length ws ≤ max_weights → All (λ w. w ≤ max_weight) ws → (ltb 0 a && eqb (sum ws) 0) ≡ false → sum (rule a ws) ≡ a
+pub whole_shared : (rule : Rule) (a : ℕ) (ws : List ℕ) → IsShareRule rule → a ≤ max_quantity →
+    length ws ≤ max_weights → All (λ w. w ≤ max_weight) ws → (ltb 0 a && eqb (sum ws) 0) ≡ false →
+    sum (rule a ws) ≡ a
 whole_shared rule a ws law few short small weight =
     let most = shares_within law a ws in
     ⊎_elim

@@ -21,7 +21,9 @@ pub record Begun (w : Weather) (ts : List Trader) (d : Day) : Type 0 where
   pub each : (t : ℕ) → metered_at ts t ≡ entered_by t d.entries
   pub all : metered_sum ts ≡ entered_in d.entries
 
-begun_still : (w : Weather) (ts us : List Trader) (d : Day) → ((t : ℕ) → metered_at us t ≡ metered_at ts t) → metered_sum us ≡ metered_sum ts → Begun w ts d → Begun w us d
+begun_still : (w : Weather) (ts us : List Trader) (d : Day) →
+    ((t : ℕ) → metered_at us t ≡ metered_at ts t) → metered_sum us ≡ metered_sum ts → Begun w ts d →
+    Begun w us d
 begun_still w ts us d each all o =
     record {
       weather = o.weather;
@@ -45,7 +47,8 @@ idle_none Idle m next e h = eqb-true m 0 h
 idle_none (Open n w) m next e h = absurd (false≢true e)
 idle_none (Measured n w g x q) m next e h = absurd (false≢true e)
 
-pub today_opened : (ph : Phase) (ts : List Trader) (next n : ℕ) (w : Weather) → is_idle ph ≡ true → day_adds_up ph (metered_sum ts) next ≡ true → Today (Open n w) ts (new_day w)
+pub today_opened : (ph : Phase) (ts : List Trader) (next n : ℕ) (w : Weather) → is_idle ph ≡ true →
+    day_adds_up ph (metered_sum ts) next ≡ true → Today (Open n w) ts (new_day w)
 today_opened ph ts next n w i h =
     let none = idle_none ph (metered_sum ts) next i h in
     record {
@@ -54,21 +57,27 @@ today_opened ph ts next n w i h =
       all = none;
     }
 
-pub today_entered : (ph : Phase) (k : ℕ) (ts : List Trader) (d : Day) (t q : ℕ) → is_open ph k ≡ true → t < length ts → Today ph ts d → Today ph (with_metered ts t q) (with_entry d t q)
+pub today_entered : (ph : Phase) (k : ℕ) (ts : List Trader) (d : Day) (t q : ℕ) →
+    is_open ph k ≡ true → t < length ts → Today ph ts d →
+    Today ph (with_metered ts t q) (with_entry d t q)
 today_entered Idle k ts d t q e h o = absurd (false≢true e)
 today_entered (Open n w) k ts d t q e h o =
     record {
       weather = o.weather;
       each =
           λ u. metered_entered ts t q u h ∙ ap (λ (m : ℕ). cond (eqb t u) q 0 + m) (o.each u)
-          ∙ sym (sum_by-cons (λ (e : MeteredEntry). cond (eqb e.trader u) e.litres 0) (record { trader = t; litres = q }) d.entries);
+          ∙ sym (sum_by-cons (λ (e : MeteredEntry). cond (eqb e.trader u) e.litres 0)
+          (record { trader = t; litres = q }) d.entries);
       all =
           metered_sum-entered ts t q h ∙ add_comm (metered_sum ts) q ∙ ap (λ (m : ℕ). q + m) o.all
-          ∙ sym (sum_by-cons (λ (e : MeteredEntry). e.litres) (record { trader = t; litres = q }) d.entries);
+          ∙ sym (sum_by-cons (λ (e : MeteredEntry). e.litres)
+          (record { trader = t; litres = q }) d.entries);
     }
 today_entered (Measured n w g x r) k ts d t q e h o = absurd (false≢true e)
 
-pub today_measured : (ph : Phase) (k : ℕ) (ts : List Trader) (d : Day) (n g r : ℕ) → is_open ph k ≡ true → Today ph ts d → Today (Measured n (weather_of ph) g (loss_of g r) (quantity_of g r (metered_sum ts))) ts (with_inflow d g r)
+pub today_measured : (ph : Phase) (k : ℕ) (ts : List Trader) (d : Day) (n g r : ℕ) →
+    is_open ph k ≡ true → Today ph ts d → Today (Measured n (weather_of ph) g (loss_of g r)
+    (quantity_of g r (metered_sum ts))) ts (with_inflow d g r)
 today_measured Idle k ts d n g r e o = absurd (false≢true e)
 today_measured (Open m w) k ts d n g r e o = (
   record { weather = o.weather; each = o.each; all = o.all },
@@ -77,7 +86,9 @@ today_measured (Open m w) k ts d n g r e o = (
 today_measured (Measured m w i x q) k ts d n g r e o = absurd (false≢true e)
 
 -- traders whose metered litres are as they were
-pub today_still : (ph : Phase) (ts us : List Trader) (d : Day) → ((t : ℕ) → metered_at us t ≡ metered_at ts t) → metered_sum us ≡ metered_sum ts → Today ph ts d → Today ph us d
+pub today_still : (ph : Phase) (ts us : List Trader) (d : Day) →
+    ((t : ℕ) → metered_at us t ≡ metered_at ts t) → metered_sum us ≡ metered_sum ts →
+    Today ph ts d → Today ph us d
 today_still Idle ts us d each all o = tt
 today_still (Open n w) ts us d each all o = begun_still w ts us d each all o
 today_still (Measured n w g x q) ts us d each all o = (begun_still w ts us d each all o.0, o.1)
@@ -91,7 +102,8 @@ pub record Running (ph : Phase) (ts : List Trader) (d : Day) : Type 0 where
   pub whole : day_quantity ph + day_loss ph + metered_sum ts ≡ d.inflow
   pub small : day_quantity ph ≤ max_litres
 
-pub running : (ph : Phase) (k next : ℕ) (ts : List Trader) (d : Day) → is_measured ph k ≡ true → day_adds_up ph (metered_sum ts) next ≡ true → Today ph ts d → Running ph ts d
+pub running : (ph : Phase) (k next : ℕ) (ts : List Trader) (d : Day) → is_measured ph k ≡ true →
+    day_adds_up ph (metered_sum ts) next ≡ true → Today ph ts d → Running ph ts d
 running Idle k next ts d e h o = absurd (false≢true e)
 running (Open n w) k next ts d e h o = absurd (false≢true e)
 running (Measured n w g x q) k next ts d e h o =

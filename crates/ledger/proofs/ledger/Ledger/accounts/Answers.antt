@@ -6,7 +6,13 @@ use Rattle.ledger.proofs.Loops.{accounts_more, accounts_none}
 use Rattle.ledger.proofs.ledger.Ledger.accounts.Goals as goal
 
 pub loop-trader-init : goal.loop-trader-init
-loop-trader-init c = (sym accounts_none, record { high = omega (arith, ints); low = omega (arith, ints) })
+loop-trader-init c = (
+  sym accounts_none,
+  record {
+    high = omega (arith, ints);
+    low = omega (arith, ints);
+  },
+)
 
 pub loop-trader-preserved : goal.loop-trader-preserved
 loop-trader-preserved c =
@@ -32,6 +38,7 @@ returns c =
     let hi = c.loop-trader.invariant.1.high in
     let lo = c.loop-trader.invariant.1.low in
     record {
-      value = c.loop-trader.invariant.0 ∙ ap all_accounts (take_all c.loop-trader.trader-index c.args.self.now.book.traders (omega arith));
+      value = c.loop-trader.invariant.0 ∙ ap all_accounts
+          (take_all c.loop-trader.trader-index c.args.self.now.book.traders (omega arith));
       bound = record { high = omega (arith, ints); low = omega (arith, ints) };
     }

@@ -13,22 +13,31 @@ pub credit-requires : goal.credit-requires
 credit-requires g c =
     let l = c.args.self.now.book in
     let s = c.args.sheet.now in
-    creditable l s g.R.ShareRule.shares (law-of g) c.args.self.now.sound c.args.uses.now c.args.shares.now c.divide.new.shares c.requires.weighed c.requires.room c.quantity.result c.quantity.ensures c.divide.ensures
+    creditable l s g.R.ShareRule.shares (law-of g) c.args.self.now.sound c.args.uses.now
+    c.args.shares.now c.divide.new.shares c.requires.weighed c.requires.room c.quantity.result
+    c.quantity.ensures c.divide.ensures
 
 pub settle-requires : goal.settle-requires
 settle-requires g c =
     let l = c.args.self.now.book in
     let s = c.args.sheet.now in
-    ready l s g.R.ShareRule.shares (law-of g) c.args.self.now.sound c.args.uses.now c.args.shares.now c.divide.new.shares c.requires.weighed c.requires.room c.quantity.result c.quantity.ensures c.divide.ensures
+    ready l s g.R.ShareRule.shares (law-of g) c.args.self.now.sound c.args.uses.now
+    c.args.shares.now c.divide.new.shares c.requires.weighed c.requires.room c.quantity.result
+    c.quantity.ensures c.divide.ensures
     c.credit.new.traders c.credit.ensures.traders
 
 pub invariant_of-self : goal.invariant_of-self
 invariant_of-self g c =
     let l = c.args.self.now.book in
     let s = c.args.sheet.now in
-    let state = closed_book l s g.R.ShareRule.shares (law-of g) c.args.self.now.sound c.args.uses.now c.args.shares.now c.divide.new.shares c.requires.weighed c.requires.room c.quantity.result c.quantity.ensures c.divide.ensures
-    c.loss-loss.result c.credit.new.traders c.settle.new.traders c.loss-loss.ensures c.credit.ensures.traders c.settle.ensures in
-    let sound = closed_sound l s g.R.ShareRule.shares (law-of g) c.args.self.now.sound c.args.uses.now c.args.shares.now c.divide.new.shares c.requires.weighed c.requires.room c.quantity.result c.quantity.ensures c.divide.ensures
+    let state = closed_book l s g.R.ShareRule.shares
+    (law-of g) c.args.self.now.sound c.args.uses.now c.args.shares.now c.divide.new.shares
+    c.requires.weighed c.requires.room c.quantity.result c.quantity.ensures c.divide.ensures
+    c.loss-loss.result c.credit.new.traders c.settle.new.traders c.loss-loss.ensures
+    c.credit.ensures.traders c.settle.ensures in
+    let sound = closed_sound l s g.R.ShareRule.shares
+    (law-of g) c.args.self.now.sound c.args.uses.now c.args.shares.now c.divide.new.shares
+    c.requires.weighed c.requires.room c.quantity.result c.quantity.ensures c.divide.ensures
     c.requires.running in
     record { sound = subst IsSound (sym state) sound }
 
@@ -36,12 +45,17 @@ pub returns-clause-state : goal.returns-clause-state
 returns-clause-state g c =
     let l = c.args.self.now.book in
     let s = c.args.sheet.now in
-    closed_book l s g.R.ShareRule.shares (law-of g) c.args.self.now.sound c.args.uses.now c.args.shares.now c.divide.new.shares c.requires.weighed c.requires.room c.quantity.result c.quantity.ensures c.divide.ensures
-    c.loss-loss.result c.credit.new.traders c.settle.new.traders c.loss-loss.ensures c.credit.ensures.traders c.settle.ensures
+    closed_book l s g.R.ShareRule.shares (law-of g) c.args.self.now.sound c.args.uses.now
+    c.args.shares.now c.divide.new.shares c.requires.weighed c.requires.room c.quantity.result
+    c.quantity.ensures c.divide.ensures
+    c.loss-loss.result c.credit.new.traders c.settle.new.traders c.loss-loss.ensures
+    c.credit.ensures.traders c.settle.ensures
 
 pub returns-clause-rows : goal.returns-clause-rows
 returns-clause-rows g c =
     let l = c.args.self.now.book in
     let s = c.args.sheet.now in
-    closed_rows l s g.R.ShareRule.shares (law-of g) c.args.self.now.sound c.args.uses.now c.args.shares.now c.divide.new.shares c.requires.weighed c.requires.room c.quantity.result c.quantity.ensures c.divide.ensures
+    closed_rows l s g.R.ShareRule.shares (law-of g) c.args.self.now.sound c.args.uses.now
+    c.args.shares.now c.divide.new.shares c.requires.weighed c.requires.room c.quantity.result
+    c.quantity.ensures c.divide.ensures
     (factors_at c.args.factors.now) c.credit.new.rows c.credit.ensures.rows

@@ -20,5 +20,7 @@ returns-in-Ok c =
     let slip = c.args.slip in
     let k = c.in-Ok.ensures in
     let b = c.book_row-by.ensures in
-    let e = booked_step l s slip (hand_over_fault l s slip c.args.trader) c.in-Ok.fit.row k.0 k.1 (λ (r : Point). c.args.trader) c.book_row-by.result c.book_row-by.new.self.book c.booked.result (search rules) b.moved b.state c.booked.ensures in
+    let e = booked_step l s slip (hand_over_fault l s slip c.args.trader) c.in-Ok.fit.row k.0 k.1
+    (λ (r : Point). c.args.trader) c.book_row-by.result c.book_row-by.new.self.book
+    c.booked.result (search rules) b.moved b.state c.booked.ensures in
     record { became = e; run = e }

@@ -15,5 +15,6 @@ open_sums-requires c =
     let room : n ≤ length s = leb-true _ _ parts.0 in
     let short : length s ≤ 4096 = leb-true _ _ parts.1 in
     let len : length rows ≡ n = ap length f.1 ∙ length-take-le n s room in
-    let small = open_sums_small c.args.trader rows (sym c.are_summable.ensures ∙ c.if-not-are_summable.false) in
+    let small = open_sums_small c.args.trader rows
+    (sym c.are_summable.ensures ∙ c.if-not-are_summable.false) in
     omega arith

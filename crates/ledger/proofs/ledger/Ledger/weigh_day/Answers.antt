@@ -15,16 +15,20 @@ weigh-total-requires-clause-segments g c =
     let n = l.counts.points in
     let len = length-take-le n s c.requires.room in
     let below : k < n = omega arith in
-    subst (λ (p : Point). p.segment < 8) (sym (get_or-take n s k no_row below)) (segment_small l s (length c.args.uses.now) c.requires k below)
+    subst (λ (p : Point). p.segment < 8) (sym (get_or-take n s k no_row below))
+    (segment_small l s (length c.args.uses.now) c.requires k below)
 
 pub returns : goal.returns
 returns g c =
     let l = c.args.self.now.book in
     let f = g.P.Profile.tells c.args.profile.now in
-    let asked = c.ask-factors.ensures ∙ ap (λ (w : Weather). map (λ (k : ℕ). f k w) (range_with_len 0 8)) c.weather.ensures in
-    let same = weighed_is l c.args.sheet.now f (length c.args.uses.now) c.requires c.ask-factors.result asked in
+    let asked = c.ask-factors.ensures ∙ ap (λ (w : Weather). map
+    (λ (k : ℕ). f k w) (range_with_len 0 8)) c.weather.ensures in
+    let same = weighed_is l c.args.sheet.now f (length c.args.uses.now) c.requires
+    c.ask-factors.result asked in
     record {
       factors = asked;
-      written = ap (λ u. u ++ drop l.counts.points c.args.uses.now) (c.weigh-total.ensures.written ∙ same);
+      written = ap (λ u. u ++ drop l.counts.points c.args.uses.now)
+          (c.weigh-total.ensures.written ∙ same);
       total = c.weigh-total.ensures.total ∙ ap sum same;
     }

@@ -12,12 +12,16 @@ settle-requires c =
     let ys = c.loop-trader.traders in
     record {
       account =
-          still (λ (t : Trader). t.account ≤ℤ pos 6_000_000_000_000_000_000) settled_trader ts ys i c.loop-trader.invariant (c.requires.within i);
-      metered = still (λ (t : Trader). t.metered ≤ max_litres) settled_trader ts ys i c.loop-trader.invariant (c.requires.small i);
+          still (λ (t : Trader). t.account ≤ℤ pos 6_000_000_000_000_000_000) settled_trader ts ys i
+          c.loop-trader.invariant (c.requires.within i);
+      metered = still (λ (t : Trader). t.metered ≤ max_litres) settled_trader ts ys i
+          c.loop-trader.invariant (c.requires.small i);
     }
 
 pub loop-trader-preserved : goal.loop-trader-preserved
-loop-trader-preserved c = map_step settled_trader c.args.traders.now c.loop-trader.traders c.loop-trader.trader-index _ (omega arith) c.loop-trader.invariant c.settle.ensures
+loop-trader-preserved c = map_step settled_trader c.args.traders.now c.loop-trader.traders
+    c.loop-trader.trader-index _ (omega arith) c.loop-trader.invariant c.settle.ensures
 
 pub returns : goal.returns
-returns c = map_done settled_trader c.args.traders.now c.loop-trader.traders c.loop-trader.trader-index (omega arith) c.loop-trader.invariant
+returns c = map_done settled_trader c.args.traders.now c.loop-trader.traders
+    c.loop-trader.trader-index (omega arith) c.loop-trader.invariant
