@@ -1,6 +1,6 @@
 /*
- * A scheduler in C: the charges and fees of one gas day, a flat-rate customer's month, and then every function of keldrava.h at
- * the ends of each argument's type and limit, with the refusals that it answers.
+ * A scheduler in C: the charges and fees of one gas day, a flat-rate customer's month, and then
+ * every function of keldrava.h at the ends of each argument's type and limit, with its refusals.
  */
 #include <inttypes.h>
 #include <stddef.h>
@@ -10,8 +10,10 @@
 #include "keldrava.h"
 
 /* The library lays its answers out as below; a compiler that does otherwise stops here. */
-_Static_assert(sizeof(keldrava_answer) == 16 && offsetof(keldrava_answer, value) == 8, "layout of keldrava_answer");
-_Static_assert(sizeof(keldrava_date_answer) == 16 && offsetof(keldrava_date_answer, day) == 12, "layout of keldrava_date_answer");
+_Static_assert(sizeof(keldrava_answer) == 16 && offsetof(keldrava_answer, value) == 8,
+               "layout of keldrava_answer");
+_Static_assert(sizeof(keldrava_date_answer) == 16 && offsetof(keldrava_date_answer, day) == 12,
+               "layout of keldrava_date_answer");
 
 #define LENGTH(array) (sizeof(array) / sizeof((array)[0]))
 
@@ -28,7 +30,8 @@ static void print_answer(keldrava_answer answer)
 /* A charge in MJ, and its fee in forints with three decimals. */
 static void print_charge(const char *what, keldrava_answer charge, keldrava_answer fee)
 {
-    printf("%-24s %6" PRIu64 " MJ %6" PRIu64 ".%03" PRIu64 " Ft\n", what, charge.value, fee.value / 1000, fee.value % 1000);
+    printf("%-24s %6" PRIu64 " MJ %6" PRIu64 ".%03" PRIu64 " Ft\n",
+           what, charge.value, fee.value / 1000, fee.value % 1000);
 }
 
 static void print_day(uint64_t number, uint64_t rate)
@@ -43,13 +46,16 @@ static void print_day(uint64_t number, uint64_t rate)
     };
     keldrava_date_answer date = keldrava_date_of_day(number);
 
-    printf("Gas day %" PRIu64 ", %04" PRIu32 "-%02" PRIu32 "-%02" PRIu32 ", %" PRIu64 " thousandths of a forint for each MJ\n",
+    printf("Gas day %" PRIu64 ", %04" PRIu32 "-%02" PRIu32 "-%02" PRIu32 ", %" PRIu64
+           " thousandths of a forint for each MJ\n",
            number, date.year, date.month, date.day, rate);
     for (size_t i = 0; i < LENGTH(nominations); i++)
         print_charge(nominations[i].trader,
                      keldrava_nomination_charge(nominations[i].nominated, nominations[i].actual),
-                     keldrava_nomination_fee(nominations[i].nominated, nominations[i].actual, rate));
-    print_charge("Aranka, balance", keldrava_balance_charge(5049, 4948), keldrava_balance_fee(5049, 4948, rate));
+                     keldrava_nomination_fee(nominations[i].nominated, nominations[i].actual,
+                                             rate));
+    print_charge("Aranka, balance", keldrava_balance_charge(5049, 4948),
+                 keldrava_balance_fee(5049, 4948, rate));
     print_charge("Berta, surplus, offers",
                  keldrava_offered_balance_charge(10000, 9000, 400, 300, 900, 900),
                  keldrava_offered_balance_fee(10000, 9000, 400, 300, 900, 900, rate));
@@ -65,7 +71,8 @@ static void print_month(uint64_t litres, uint64_t year, uint64_t month)
     uint64_t day = 1;
     keldrava_answer answer = keldrava_flat_rate_day(litres, year, month, day);
 
-    printf("\nFlat rate of %" PRIu64 " litres in %04" PRIu64 "-%02" PRIu64 "\n", litres, year, month);
+    printf("\nFlat rate of %" PRIu64 " litres in %04" PRIu64 "-%02" PRIu64 "\n",
+           litres, year, month);
     while (answer.status == KELDRAVA_OK) {
         printf("%2" PRIu64 " %" PRIu64 "\n", day, answer.value);
         sum += answer.value;
@@ -114,7 +121,8 @@ static keldrava_answer day_number(const uint64_t *a)
 static keldrava_answer date_of_day(const uint64_t *a)
 {
     keldrava_date_answer date = keldrava_date_of_day(a[0]);
-    keldrava_answer answer = {date.status, (uint64_t)date.year * 10000 + date.month * 100 + date.day};
+    uint64_t number = (uint64_t)date.year * 10000 + date.month * 100 + date.day;
+    keldrava_answer answer = {date.status, number};
 
     return answer;
 }
@@ -140,11 +148,14 @@ static const struct call calls[] = {
     {"nomination_fee", nomination_fee, 3, {1000, 1121, 250}, {MJ, MJ, KELDRAVA_MOST_RATE}},
     {"balance_charge", balance_charge, 2, {5049, 4948}, {MJ, MJ}},
     {"balance_fee", balance_fee, 3, {5049, 4948, 250}, {MJ, MJ, KELDRAVA_MOST_RATE}},
-    {"offered_balance_charge", offered_balance_charge, 6, {10000, 9000, 400, 300, 20, 10}, {MJ, MJ, MJ, MJ, MJ, MJ}},
-    {"offered_balance_fee", offered_balance_fee, 7, {10000, 9000, 400, 300, 20, 10, 250}, {MJ, MJ, MJ, MJ, MJ, MJ, KELDRAVA_MOST_RATE}},
+    {"offered_balance_charge", offered_balance_charge, 6,
+     {10000, 9000, 400, 300, 20, 10}, {MJ, MJ, MJ, MJ, MJ, MJ}},
+    {"offered_balance_fee", offered_balance_fee, 7,
+     {10000, 9000, 400, 300, 20, 10, 250}, {MJ, MJ, MJ, MJ, MJ, MJ, KELDRAVA_MOST_RATE}},
     {"day_number", day_number, 3, {2009, 10, 1}, {2099, 12, 31}},
     {"date_of_day", date_of_day, 1, {3561}, {KELDRAVA_LAST_DAY}},
-    {"flat_rate_day", flat_rate_day, 4, {1000000, 2009, 10, 1}, {KELDRAVA_MOST_LITRES, 2099, 12, 31}},
+    {"flat_rate_day", flat_rate_day, 4,
+     {1000000, 2009, 10, 1}, {KELDRAVA_MOST_LITRES, 2099, 12, 31}},
 };
 
 static void print_call(const struct call *call, const uint64_t *arguments)
@@ -165,7 +176,10 @@ static void print_all_at(const struct call *call, uint64_t number)
     print_call(call, arguments);
 }
 
-/* Each argument in turn at the ends of its type and at its limit, with the others as accepted; then all together. */
+/*
+ * Each argument in turn at the ends of its type and at its limit, with the others as accepted; then
+ * all together.
+ */
 static void print_ends(const struct call *call)
 {
     uint64_t arguments[MOST_ARGUMENTS];

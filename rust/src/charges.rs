@@ -235,7 +235,7 @@ mod tests {
     }
 
     #[test]
-    fn a_charge_is_nought_exactly_where_inside() {
+    fn a_charge_is_zero_exactly_where_inside() {
         for a in (0..400).step_by(7) {
             for b in 0..400 {
                 assert!(is_lawful(&Nomination::new(a, b).unwrap()));

@@ -195,7 +195,7 @@ mod tests {
         }
     }
 
-    fn is_nought_outside(profile: &impl Profile) {
+    fn is_zero_outside(profile: &impl Profile) {
         for (segment, temperature, season) in [
             (profile.segments(), 0, 0),
             (8, 0, 0),
@@ -212,16 +212,16 @@ mod tests {
     }
 
     #[test]
-    fn asked_outside_every_profile_tells_nought() {
-        is_nought_outside(&marked());
-        is_nought_outside(&Even::new(5).unwrap());
-        is_nought_outside(&SeasonLayer::new(marked(), 0).unwrap());
-        is_nought_outside(&SeasonLayer::new(Even::new(5).unwrap(), 7).unwrap());
-        is_nought_outside(&SeasonLayer::new(marked(), 7).unwrap());
+    fn asked_outside_every_profile_gives_zero() {
+        is_zero_outside(&marked());
+        is_zero_outside(&Even::new(5).unwrap());
+        is_zero_outside(&SeasonLayer::new(marked(), 0).unwrap());
+        is_zero_outside(&SeasonLayer::new(Even::new(5).unwrap(), 7).unwrap());
+        is_zero_outside(&SeasonLayer::new(marked(), 7).unwrap());
     }
 
     #[test]
-    fn a_new_table_tells_nought() {
+    fn a_new_table_gives_zero() {
         assert_eq!(Table::new().tell(1, 100, 0), Factors::default());
     }
 

@@ -1,4 +1,4 @@
 pub mod Rows
-pub mod Years
+pub mod Counting
 pub mod Dates
-pub mod Parts
+pub mod Spread

@@ -1,15 +1,14 @@
-// How long the months are, and the days before each, from a table of two rows.
+//! How long the months are, and the days before each, from a table of two rows.
 ghost use Rattle.std.specs.Prelude.{◌≡◌, ◌+◌, ◌<◌, ◌≤◌};
 ghost use Rattle.calendar.specs.Days.{month_length, days_before_month, year_length};
 
-// The months of one kind of year.
+// The months of one kind of year, in days.
 struct Row {
     lengths: [u8; 12],
     before: [u16; 12],
 }
 
 // The common year first, then the leap year.
-// Two rows, and not a struct for each month: 24 of those would be no plainer to check against an almanac.
 const YEARS: [Row; 2] = [
     Row {
         lengths: [31, 28, 31, 30, 31, 30, 31, 31, 30, 31, 30, 31],
@@ -21,7 +20,7 @@ const YEARS: [Row; 2] = [
     },
 ];
 
-// A month of a leap or a common year, counted from 0.
+/// A month of a leap or a common year, counted from 0 for January.
 #[derive(Clone, Copy)]
 pub(super) struct Month {
     pub(super) leap: bool,
@@ -30,7 +29,7 @@ pub(super) struct Month {
 }
 
 impl Month {
-    // The month that a day of the year, counted from 0, lies in.
+    /// The month that a day of the year, counted from 0, lies in.
     pub(super) fn of_day(leap: bool, day: u16) -> Month
         requires { day < year_length leap }
         ensures leap { result.leap ≡ leap }
@@ -47,12 +46,14 @@ impl Month {
         }
     }
 
+    /// The days of the month, 28 to 31.
     pub(super) fn length(self) -> u8
         ensures { result ≡ month_length self.leap self.index }
     {
         YEARS[usize::from(self.leap)].lengths[self.index]
     }
 
+    /// The days of its year before the month.
     pub(super) fn days_before(self) -> u16
         ensures value { result ≡ days_before_month self.leap self.index }
         ensures bound { result ≤ 335 }

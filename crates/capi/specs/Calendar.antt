@@ -1,17 +1,18 @@
--- Dates as three numbers, and what C is told of them.
-use Rattle.std.specs.Prelude.{◌≡◌, ℕ, ◌<◌, ◌≤◌}
+-- Dates as three numbers, and what C gets for a day number.
+use Rattle.std.specs.Prelude.{◌≡◌, ℕ, ◌<◌, ◌≤◌, Err}
 use Rattle.refusals.specs.declared.Refusal.TheVariants.{NoSuchDay}
-use Rattle.refusals.specs.Numbers.{number_of}
 use Rattle.calendar.specs.declared.date.Date.{Date}
-use Rattle.calendar.specs.Days.{Dated}
+use Rattle.calendar.specs.Days.{last_day, IsDateOf}
 use Rattle.capi.specs.declared.answer.DateAnswer.{DateAnswer}
+use Rattle.capi.specs.Answer.{date_answer_of}
 
 -- The date that a year, a month and a day write.
-abbrev pub written : ℕ → ℕ → ℕ → Date
-written year month day = record { year = year; month = month; day = day }
+abbrev pub date_of : ℕ → ℕ → ℕ → Date
+date_of year month day = record { year = year; month = month; day = day }
 
--- Status 0 and the one date that has the number, or the refusal's number and noughts.
-abbrev pub DateTold : ℕ → DateAnswer → Type 0
-DateTold number answer =
-    (number ≤ 36524 → (answer.status ≡ 0) × Dated number (written answer.year answer.month answer.day))
-    × (36524 < number → answer ≡ record { status = number_of NoSuchDay; year = 0; month = 0; day = 0 })
+-- Status 0 and the one date that has the number, or the refusal of a number past the last day.
+abbrev pub AnswersDate : ℕ → DateAnswer → Type 0
+AnswersDate number answer =
+    (number ≤ last_day
+    → (answer.status ≡ 0) × IsDateOf (date_of answer.year answer.month answer.day) number)
+    × (last_day < number → answer ≡ date_answer_of (Err NoSuchDay))

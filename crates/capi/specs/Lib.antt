@@ -1,3 +1,3 @@
-pub mod Told
+pub mod Answer
 pub mod Charging
 pub mod Calendar

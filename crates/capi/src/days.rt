@@ -1,19 +1,20 @@
-// The calendar and the flat-rate day. The C interface takes each number of a date by itself.
-ghost use Rattle.std.specs.Prelude.{◌≡◌, ◌<◌, ◌≤◌, false, MatchOption, MatchResult};
-ghost use Rattle.refusals.specs.declared.Refusal.TheVariants.{NoSuchDay};
-ghost use Rattle.calendar.specs.Days.{day_of, is_day, Dated};
-ghost use Rattle.calendar.specs.FlatRate.{flat_rate};
-ghost use Rattle.capi.specs.Told.{told};
-ghost use Rattle.capi.specs.Calendar.{written, DateTold};
+//! The calendar and the flat-rate day. The C interface takes each number of a date by itself.
+ghost use Rattle.std.specs.Prelude.{◌≡◌, IsFalse, MatchOption};
+ghost use Rattle.calendar.specs.Days.{is_day, day_number, FindsDate};
+ghost use Rattle.calendar.specs.FlatRate.{flat_rate_day};
+ghost use Rattle.capi.specs.Answer.{answer_of};
+ghost use Rattle.capi.specs.Calendar.{date_of, AnswersDate};
 
 use super::answer::{Answer, DateAnswer};
 use calendar::date::Date;
-use calendar::flat_rate::{MOST_LITRES, flat_rate_day};
+use calendar::flat_rate::{MAX_LITRES, flat_rate_day};
 use refusals::Refusal;
 
 // The date that three numbers write, unless one of them is too large for any date.
 fn date(year: u64, month: u64, day: u64) -> Option<Date>
-    ensures { MatchOption result (is_day (written year month day) ≡ false) (λ d. d ≡ written year month day) }
+    ensures { MatchOption result
+        (IsFalse (is_day (date_of year month day)))
+        (λ date. date ≡ date_of year month day) }
 {
     Some(Date {
         year: year.try_into().ok()?,
@@ -22,10 +23,11 @@ fn date(year: u64, month: u64, day: u64) -> Option<Date>
     })
 }
 
-// The number of a date's day.
+/// The number of a date's day, 0 for 1 January 2000 to 36,524 (docs/CALENDAR.md). A date that is no
+/// day of the years 2000 to 2099 is refused by 9.
 #[unsafe(no_mangle)]
 pub extern "C" fn keldrava_day_number(year: u64, month: u64, day: u64) -> Answer
-    ensures { result ≡ told (day_of (written year month day)) }
+    ensures { result ≡ answer_of (day_number (date_of year month day)) }
 {
     date(year, month, day)
         .ok_or(Refusal::NoSuchDay)
@@ -35,29 +37,30 @@ pub extern "C" fn keldrava_day_number(year: u64, month: u64, day: u64) -> Answer
 }
 
 // The date of a day number, which may be too large for any day.
-fn date_of(number: u64) -> Result<Date, Refusal>
-    ensures { MatchResult result (λ d. (number ≤ 36524) × Dated number d) (λ e. (36524 < number) × (e ≡ NoSuchDay)) }
+fn date_of_day(number: u64) -> Result<Date, Refusal>
+    ensures { FindsDate number result }
 {
     Date::from_number(u32::try_from(number).map_err(|_| Refusal::NoSuchDay)?)
 }
 
-// The date of a day number.
+/// The date of a day number (docs/CALENDAR.md). A number above 36,524 is refused by 9.
 #[unsafe(no_mangle)]
 pub extern "C" fn keldrava_date_of_day(number: u64) -> DateAnswer
-    ensures { DateTold number result }
+    ensures { AnswersDate number result }
 {
-    date_of(number).into()
+    date_of_day(number).into()
 }
 
-// The litres of one day of a flat-rate customer, given those of its month.
+/// The litres of one day of a flat-rate customer, given those of its month, at most 1,000,000,000
+/// (docs/CALENDAR.md). More litres are refused by 6, and then a date that is no day by 9.
 #[unsafe(no_mangle)]
 pub extern "C" fn keldrava_flat_rate_day(litres: u64, year: u64, month: u64, day: u64) -> Answer
-    ensures { result ≡ told (flat_rate litres (written year month day)) }
+    ensures { result ≡ answer_of (flat_rate_day litres (date_of year month day)) }
 {
     match date(year, month, day) {
         Some(date) => flat_rate_day(litres, date),
         // Too many litres are refused first, whatever the date.
-        None if litres > MOST_LITRES => Err(Refusal::Litres),
+        None if litres > MAX_LITRES => Err(Refusal::Litres),
         None => Err(Refusal::NoSuchDay),
     }
     .into()

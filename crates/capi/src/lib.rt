@@ -1,5 +1,6 @@
-// The charges and the calendar for C: plain numbers in, a status and plain numbers out. No number is a bad one: what the rules
-// do not allow is answered by the refusal's number. `include/keldrava.h` declares these functions.
+//! The charges and the calendar for C (docs/C-INTERFACE.md): plain numbers in, a status and plain
+//! numbers out. Any number may be handed in: what the rules do not allow is answered by the
+//! refusal's number. `include/keldrava.h` declares these functions.
 #![tactic(auto)]
 
 mod answer;

@@ -1,4 +1,8 @@
 pub mod Quantity
-pub mod Rule
+pub mod Tolerance
+pub mod Nomination
+pub mod Balance
 pub mod Offers
-pub mod Settings
+pub mod OfferedBalance
+pub mod OfferedBalanceLaws
+pub mod Tariff

@@ -1,28 +1,26 @@
-// The charge on the balance of a source and its consumption, without offers and with them.
-ghost use Rattle.std.specs.Prelude.{◌≡◌, ◌+◌, ◌≤◌, max, refl};
-ghost use Rattle.std.proofs.Common.{arith};
-ghost use Rattle.std.proofs.lemmas.Bool.Decides.{nat_tests};
-ghost use Rattle.charges.specs.Quantity.{both_fit, unless_too_much};
-ghost use Rattle.charges.specs.Offers.{total};
-ghost use Rattle.charges.specs.Rule.{apart, tolerance, balance_inside, balance_due, usable, offered_inside, offered_due};
+//! The charge on the balance of a source and its consumption, without offers and with them.
+ghost use Rattle.std.specs.Prelude.{◌≡◌, ◌*◌, ◌≤◌, refl};
+ghost use Rattle.charges.specs.Quantity.{max_mj, value_in_limits};
 
 use super::megajoules::Megajoules;
 use super::rules::{Charge, Tolerance};
 use refusals::Refusal;
 
-// What a source gave, and what was consumed from it: a surplus where the source is not below, else a deficit.
+/// What a source gave, and what was consumed from it: a surplus where the source is not below the
+/// consumption, else a deficit. 2 per cent of the source are tolerated (docs/CHARGES.md).
 #[derive(Clone, Copy)]
 pub struct Balance {
     pub source: Megajoules,
     pub consumption: Megajoules,
 }
 
-// From the MJ of the source and the MJ consumed. Here, for offers and for a nomination the steps are alike but for the fields' names, which
-// a generic maker would have to be told again.
+/// From the MJ of the source and the MJ consumed. One above 1,000,000,000,000 is refused by 10.
 impl TryFrom<(u64, u64)> for Balance {
+    ghost use Rattle.charges.specs.Balance.{balance_of, balance_fits};
+
     type Error = Refusal;
 
-    ghost try_from_gives = { λ mj r. r ≡ unless_too_much (both_fit mj.0 mj.1) (record { source = mj.0; consumption = mj.1 }) };
+    ghost try_from_gives = { λ p r. r ≡ value_in_limits balance_fits (balance_of p.0 p.1) };
 
     fn try_from(mj: (u64, u64)) -> Result<Balance, Refusal> {
         Ok(Balance {
@@ -33,47 +31,53 @@ impl TryFrom<(u64, u64)> for Balance {
 }
 
 impl Tolerance for Balance {
+    ghost use Rattle.charges.specs.Balance.{balance_deviation, balance_tolerance, is_balance_inside};
+
     const PERCENT: u64 = 2;
 
     ghost PERCENT = { 2 };
 
     ghost basis = { λ b. b.source };
 
-    ghost deviation = { λ b. apart b.source b.consumption };
+    ghost deviation = { balance_deviation };
 
-    ghost free = { λ b. tolerance b.source 2 };
+    ghost allowance = { balance_tolerance };
 
-    ghost inside = { λ b. balance_inside b.source b.consumption };
+    ghost is_inside = { is_balance_inside };
 
-    ghost inside_is_at_most_free = { λ _. refl };
+    ghost is_inside_by_allowance = { λ _. refl };
 
     fn deviation(&self) -> Megajoules {
         self.source.abs_diff(self.consumption)
     }
 
-    fn free(&self) -> u64 {
+    fn allowance(&self) -> u64 {
         self.source.per_cent(Self::PERCENT)
     }
 }
 
 impl Charge for Balance {
-    ghost due = { λ b. balance_due b.source b.consumption };
+    ghost use Rattle.charges.specs.Balance.{balance_charge};
 
-    ghost due_is_beyond_free = { λ _. refl };
+    ghost charge = { balance_charge };
+
+    ghost charge_beyond_allowance = { λ _. refl };
 }
 
-// The offers of one direction, by their two kinds, HEG and HEGO.
+/// The offers of one direction, by their two kinds, HEG and HEGO.
 #[derive(Clone, Copy)]
 pub struct Offers {
     pub heg: Megajoules,
     pub hego: Megajoules,
 }
 
-// From the MJ of HEG and the MJ of HEGO.
+/// From the MJ of HEG and the MJ of HEGO. One above 1,000,000,000,000 is refused by 10.
 impl TryFrom<(u64, u64)> for Offers {
+    ghost use Rattle.charges.specs.Offers.{offers_of, offers_fit};
+
     type Error = Refusal;
 
-    ghost try_from_gives = { λ mj r. r ≡ unless_too_much (both_fit mj.0 mj.1) (record { heg = mj.0; hego = mj.1 }) };
+    ghost try_from_gives = { λ p r. r ≡ value_in_limits offers_fit (offers_of p.0 p.1) };
 
     fn try_from(mj: (u64, u64)) -> Result<Offers, Refusal> {
         Ok(Offers {
@@ -84,16 +88,19 @@ impl TryFrom<(u64, u64)> for Offers {
 }
 
 impl Offers {
-    // Both kinds together.
+    ghost use Rattle.charges.specs.Offers.{total};
+
+    /// The MJ of both kinds together.
     pub fn total(self) -> u64
         ensures value { result ≡ total self }
-        ensures bound { result ≤ 2000000000000 }
+        ensures bound { result ≤ 2 * max_mj }
     {
         self.heg.mj() + self.hego.mj()
     }
 }
 
-// A balance with offers against it: negative ones serve a surplus, positive ones a deficit.
+/// A balance with offers against it: negative ones serve a surplus, positive ones a deficit
+/// (docs/CHARGES.md).
 #[derive(Clone, Copy)]
 pub struct OfferedBalance {
     pub balance: Balance,
@@ -102,10 +109,12 @@ pub struct OfferedBalance {
 }
 
 impl OfferedBalance {
-    // The offers that serve this balance.
+    ghost use Rattle.charges.specs.OfferedBalance.{usable_offers};
+
+    /// The MJ of the offers that serve this balance.
     pub fn usable_offers(self) -> u64
-        ensures value { result ≡ usable self.balance.source self.balance.consumption (total self.negative) (total self.positive) }
-        ensures bound { result ≤ 2000000000000 }
+        ensures value { result ≡ usable_offers self }
+        ensures bound { result ≤ 2 * max_mj }
     {
         if self.balance.source.mj() >= self.balance.consumption.mj() {
             self.negative.total()
@@ -116,31 +125,37 @@ impl OfferedBalance {
 }
 
 impl Tolerance for OfferedBalance {
+    ghost use Rattle.charges.specs.Balance.{balance_deviation};
+    ghost use Rattle.charges.specs.OfferedBalance.{offered_balance_allowance, is_offered_balance_inside};
+    ghost use Rattle.charges.specs.OfferedBalanceLaws.{is_offered_balance_inside_lem};
+
     const PERCENT: u64 = Balance::PERCENT;
 
     ghost PERCENT = { 2 };
 
     ghost basis = { λ b. b.balance.source };
 
-    ghost deviation = { λ b. apart b.balance.source b.balance.consumption };
+    ghost deviation = { λ b. balance_deviation b.balance };
 
-    ghost free = { λ b. max (tolerance b.balance.source 2) (usable b.balance.source b.balance.consumption (total b.negative) (total b.positive)) };
+    ghost allowance = { offered_balance_allowance };
 
-    ghost inside = { λ b. offered_inside b.balance.source b.balance.consumption (total b.negative) (total b.positive) };
+    ghost is_inside = { is_offered_balance_inside };
 
-    ghost inside_is_at_most_free = { Prim.grind (arith, nat_tests) };
+    ghost is_inside_by_allowance = { is_offered_balance_inside_lem };
 
     fn deviation(&self) -> Megajoules {
         self.balance.deviation()
     }
 
-    fn free(&self) -> u64 {
-        self.balance.free().max(self.usable_offers())
+    fn allowance(&self) -> u64 {
+        self.balance.allowance().max(self.usable_offers())
     }
 }
 
 impl Charge for OfferedBalance {
-    ghost due = { λ b. offered_due b.balance.source b.balance.consumption (total b.negative) (total b.positive) };
+    ghost use Rattle.charges.specs.OfferedBalance.{offered_balance_charge};
 
-    ghost due_is_beyond_free = { λ _. refl };
+    ghost charge = { offered_balance_charge };
+
+    ghost charge_beyond_allowance = { λ _. refl };
 }

@@ -1,4 +1,5 @@
-// Charges for deviations from what was nominated or balanced, and the fee for them.
+//! Charges for deviations from what was nominated or balanced, and the fee for them, as
+//! docs/CHARGES.md has them.
 #![tactic(auto)]
 
 pub mod balance;

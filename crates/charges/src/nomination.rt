@@ -1,24 +1,26 @@
-// The charge on what was drawn beside the nomination.
+//! The charge on what was drawn beside the nomination.
 ghost use Rattle.std.specs.Prelude.{◌≡◌, refl};
-ghost use Rattle.charges.specs.Quantity.{both_fit, unless_too_much};
-ghost use Rattle.charges.specs.Rule.{apart, tolerance, nomination_inside, nomination_due};
 
 use super::megajoules::Megajoules;
 use super::rules::{Charge, Tolerance};
 use refusals::Refusal;
 
-// What was nominated for a day, and what was then drawn.
+/// What was nominated for a day, and what was then drawn. 12 per cent of what was nominated are
+/// tolerated (docs/CHARGES.md).
 #[derive(Clone, Copy)]
 pub struct Nomination {
     pub nominated: Megajoules,
     pub actual: Megajoules,
 }
 
-// From the MJ nominated and the MJ drawn.
+/// From the MJ nominated and the MJ drawn. One above 1,000,000,000,000 is refused by 10.
 impl TryFrom<(u64, u64)> for Nomination {
+    ghost use Rattle.charges.specs.Quantity.{value_in_limits};
+    ghost use Rattle.charges.specs.Nomination.{nomination_of, nomination_fits};
+
     type Error = Refusal;
 
-    ghost try_from_gives = { λ mj r. r ≡ unless_too_much (both_fit mj.0 mj.1) (record { nominated = mj.0; actual = mj.1 }) };
+    ghost try_from_gives = { λ p r. r ≡ value_in_limits nomination_fits (nomination_of p.0 p.1) };
 
     fn try_from(mj: (u64, u64)) -> Result<Nomination, Refusal> {
         Ok(Nomination {
@@ -29,31 +31,35 @@ impl TryFrom<(u64, u64)> for Nomination {
 }
 
 impl Tolerance for Nomination {
+    ghost use Rattle.charges.specs.Nomination.{nomination_deviation, nomination_tolerance, is_nomination_inside};
+
     const PERCENT: u64 = 12;
 
     ghost PERCENT = { 12 };
 
     ghost basis = { λ n. n.nominated };
 
-    ghost deviation = { λ n. apart n.actual n.nominated };
+    ghost deviation = { nomination_deviation };
 
-    ghost free = { λ n. tolerance n.nominated 12 };
+    ghost allowance = { nomination_tolerance };
 
-    ghost inside = { λ n. nomination_inside n.nominated n.actual };
+    ghost is_inside = { is_nomination_inside };
 
-    ghost inside_is_at_most_free = { λ _. refl };
+    ghost is_inside_by_allowance = { λ _. refl };
 
     fn deviation(&self) -> Megajoules {
         self.actual.abs_diff(self.nominated)
     }
 
-    fn free(&self) -> u64 {
+    fn allowance(&self) -> u64 {
         self.nominated.per_cent(Self::PERCENT)
     }
 }
 
 impl Charge for Nomination {
-    ghost due = { λ n. nomination_due n.nominated n.actual };
+    ghost use Rattle.charges.specs.Nomination.{nomination_charge};
 
-    ghost due_is_beyond_free = { λ _. refl };
+    ghost charge = { nomination_charge };
+
+    ghost charge_beyond_allowance = { λ _. refl };
 }

@@ -1,60 +1,62 @@
-// What a tolerance rule and a charge rule are.
-ghost use Rattle.std.specs.Prelude.{◌≡◌, ℕ, ◌-◌, ◌≤◌, Bool, true, nat_le};
-ghost use Rattle.charges.specs.Rule.{tolerance};
+//! What a tolerance rule and a charge rule are.
+ghost use Rattle.std.specs.Prelude.{◌≡◌, ℕ, ◌-◌, ◌≤◌, ◌↔◌, Bool, IsTrue, nat_le};
+ghost use Rattle.charges.specs.Quantity.{max_mj};
+ghost use Rattle.charges.specs.Tolerance.{tolerance};
 
 use super::megajoules::Megajoules;
 
-// A rule that says whether a deviation is inside what is free of charge. A rule tells the two quantities; the judgement is the same for all.
+/// A rule that says whether a deviation is inside what is free of charge (docs/CHARGES.md). A rule
+/// gives its deviation and its allowance; the judgement is the same for all.
 pub trait Tolerance {
-    // How many per cent of the basis are tolerated.
+    /// How many per cent of the basis are free of charge at least, 0 to 100.
     const PERCENT: u64;
 
     ghost PERCENT: { ℕ };
 
-    // What they are a share of.
+    // The MJ that the percentage is taken of.
     ghost basis: { Self → ℕ };
 
-    // The size of the deviation.
     ghost deviation: { Self → ℕ };
 
-    // The MJ of a deviation that are free of charge.
-    ghost free: { Self → ℕ };
+    ghost allowance: { Self → ℕ };
 
-    // Whether the deviation is inside.
-    ghost inside: { Self → Bool };
+    ghost is_inside: { Self → Bool };
 
+    /// How far apart the rule's two quantities are.
     fn deviation(&self) -> Megajoules
         ensures { result ≡ deviation self.now };
 
-    fn free(&self) -> u64
-        ensures value { result ≡ free self.now }
-        ensures tolerance_is_free { tolerance (basis self.now) PERCENT ≤ result };
+    /// The MJ of a deviation that are free of charge.
+    fn allowance(&self) -> u64
+        ensures value { result ≡ allowance self.now }
+        ensures tolerance { tolerance (basis self.now) PERCENT ≤ result };
 
+    /// Whether the deviation is free of charge.
     fn is_inside(&self) -> bool
-        ensures { result ≡ inside self.now }
+        ensures { result ≡ is_inside self.now }
     {
-        self.deviation().mj() <= self.free()
+        self.deviation().mj() <= self.allowance()
     }
 
-    // What a rule means by inside is a deviation of at most what is free.
-    ghost inside_is_at_most_free: { (rule : Self) → inside rule ≡ nat_le (deviation rule) (free rule) };
+    // A rule's own meaning of inside is a deviation of at most its allowance.
+    ghost is_inside_by_allowance: { (r : Self) → is_inside r ≡ nat_le (deviation r) (allowance r) };
 }
 
-// A tolerance rule that also tells the MJ to be charged: none exactly where the deviation is inside, and never more than it.
+/// A tolerance rule that also gives the MJ to be charged: none exactly where the deviation is
+/// inside, and never more than the deviation (docs/CHARGES.md).
 pub trait Charge: Tolerance {
-    // The MJ to be charged.
-    ghost due: { Self → ℕ };
+    ghost charge: { Self → ℕ };
 
+    /// The MJ to be charged, 0 to 1,000,000,000,000.
     fn charge(&self) -> u64
-        ensures value { result ≡ due self.now }
-        ensures none_inside { Self.inside self.now ≡ true → result ≡ 0 }
-        ensures inside_at_none { result ≡ 0 → Self.inside self.now ≡ true }
+        ensures value { result ≡ charge self.now }
+        ensures none_inside { (result ≡ 0) ↔ IsTrue (Self.is_inside self.now) }
         ensures at_most { result ≤ Self.deviation self.now }
-        ensures bound { result ≤ 1000000000000 }
+        ensures bound { result ≤ max_mj }
     {
-        self.deviation().mj().saturating_sub(self.free())
+        self.deviation().mj().saturating_sub(self.allowance())
     }
 
-    // What a rule means by due is the deviation beyond what is free.
-    ghost due_is_beyond_free: { (rule : Self) → due rule ≡ Self.deviation rule - Self.free rule };
+    // A rule's own meaning of the charge is the deviation beyond its allowance.
+    ghost charge_beyond_allowance: { (r : Self) → charge r ≡ Self.deviation r - Self.allowance r };
 }

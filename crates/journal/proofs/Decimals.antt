@@ -10,46 +10,61 @@ use Rattle.std.proofs.lemmas.Result.{OkIff-at_err}
 use Rattle.std.proofs.lemmas.Str.{IsUtf8-from_ascii}
 use Rattle.std.proofs.lemmas.Str.Parse.{IsNumeralModel, numerals_by_value, tells_all_ascii_digits, parse_digits}
 use Rattle.journal.specs.declared.fault.Fault.TheVariants.{NotNumber, TooLarge}
-use Rattle.journal.specs.Numbers.{number_of, numeral}
+use Rattle.journal.specs.Numbers.{number_of, is_numeral}
 
 -- these words are the library's own for a numeral
-own : IsNumeralModel (λ ds. all_ascii_digits ds ≡ true) (digits_value 10)
-own = numerals_by_value _ tells_all_ascii_digits
+numeral_model : IsNumeralModel (λ ds. all_ascii_digits ds ≡ true) (digits_value 10)
+numeral_model = numerals_by_value _ tells_all_ascii_digits
 
-pub digits_all : (ds : List ℕ) → list_all is_ascii_digit ds ≡ all_ascii_digits ds
-digits_all [] = refl
-digits_all (d ∷ ds) = ap (λ (b : Bool). is_ascii_digit d && b) (digits_all ds)
+pub list_all-is_ascii_digit : (ds : List ℕ) → list_all is_ascii_digit ds ≡ all_ascii_digits ds
+list_all-is_ascii_digit [] = refl
+list_all-is_ascii_digit (d ∷ ds) =
+    ap (λ (b : Bool). is_ascii_digit d && b) (list_all-is_ascii_digit ds)
 
-pub digits_text : (ds : List ℕ) → all_ascii_digits ds ≡ true → IsUtf8 ds
-digits_text ds h = IsUtf8-from_ascii ds (IsAscii-from_digits ds (own.to ds h))
+pub IsUtf8-from_digits : (ds : List ℕ) → all_ascii_digits ds ≡ true → IsUtf8 ds
+IsUtf8-from_digits ds h = IsUtf8-from_ascii ds (IsAscii-from_digits ds (numeral_model.to ds h))
 
-pub numeral_all : (word : List ℕ) → numeral word ≡ true → all_ascii_digits word ≡ true
-numeral_all word h = by (leb 1 (length word)) (all_ascii_digits word) h
+pub all_ascii_digits-from_is_numeral : (word : List ℕ) → is_numeral word ≡ true →
+    all_ascii_digits word ≡ true
+all_ascii_digits-from_is_numeral word h = by (leb 1 (length word)) (all_ascii_digits word) h
   where
     by : (a b : Bool) → (a && b) ≡ true → b ≡ true
     by true b e = e
     by false b e = absurd (let z : ⊥ = cc in z)
 
-pub numeral_some : (word : List ℕ) → numeral word ≡ true → 0 < length word
-numeral_some [] h = absurd (let z : ⊥ = cc in z)
-numeral_some (d ∷ ds) h = omega arith
+pub length-is_numeral : (word : List ℕ) → is_numeral word ≡ true → 0 < length word
+length-is_numeral [] h = absurd (let z : ⊥ = cc in z)
+length-is_numeral (d ∷ ds) h = omega arith
 
 -- a numeral that a number of 64 bits does not hold is above each limit
-pub numeral_large : {E : Type 0} (limit : ℕ) (word : List ℕ) (r : Result ℕ E) (e : E) → limit < 2 ^ 64 → numeral word ≡ true → ParsesUnsigned 64 10 word r → r ≡ Err e → Err TooLarge ≡ number_of limit word
-numeral_large limit word r e top h parses is =
-    let more : (digits_value 10 word < 2 ^ 64) → ⊥ = λ low. OkIff-at_err r _ _ e (parse_digits own 64 word r parses (numeral_all word h)) is (numeral_some word h, low) in
-    let t : leb (digits_value 10 word) limit ≡ false = lt-leb (digits_value 10 word) limit (omega (arith, more)) in
-    sym (ap (λ (b : Bool). cond b (cond (leb (digits_value 10 word) limit) (Ok (digits_value 10 word)) (Err TooLarge)) (Err NotNumber)) h ∙ ap (λ (b : Bool). cond b (Ok (digits_value 10 word)) (Err TooLarge)) t)
+pub number_of-large : {E : Type 0} (limit : ℕ) (word : List ℕ) (r : Result ℕ E) (e : E) →
+    limit < 2 ^ 64 → is_numeral word ≡ true → ParsesUnsigned 64 10 word r → r ≡ Err e →
+    Err TooLarge ≡ number_of limit word
+number_of-large limit word r e top h parses is =
+    let more : (digits_value 10 word < 2 ^ 64) → ⊥ =
+    λ low. OkIff-at_err r _ _ e
+    (parse_digits numeral_model 64 word r parses (all_ascii_digits-from_is_numeral word h)) is
+    (length-is_numeral word h, low) in
+    let t : leb (digits_value 10 word) limit ≡ false =
+    lt-leb (digits_value 10 word) limit (omega (arith, more)) in
+    sym (ap (λ (b : Bool). cond b
+    (cond (leb (digits_value 10 word) limit) (Ok (digits_value 10 word)) (Err TooLarge))
+    (Err NotNumber)) h ∙ ap (λ (b : Bool). cond b (Ok (digits_value 10 word)) (Err TooLarge)) t)
 
 -- what is written of a number is read as that number
-pub number_back : (limit n : ℕ) → limit < 2 ^ 64 → n ≤ limit → number_of limit (decimal n) ≡ Ok n
-number_back limit n top h =
+pub number_of-decimal : (limit n : ℕ) → limit < 2 ^ 64 → n ≤ limit →
+    number_of limit (decimal n) ≡ Ok n
+number_of-decimal limit n top h =
     let small : n < 2 ^ 64 = omega arith in
-    let long : leb 1 (length (decimal n)) ≡ true = le-leb 1 (length (decimal n)) (omega (arith, decimal_nonempty n small)) in
-    let all : all_ascii_digits (decimal n) ≡ true = digits_decimal own n small in
-    let is : digits_value 10 (decimal n) ≡ n = digits_value-decimal own n small in
-    let fits : leb (digits_value 10 (decimal n)) limit ≡ true = le-leb (digits_value 10 (decimal n)) limit (omega (arith, is)) in
-    let num : numeral (decimal n) ≡ true = (λ i. long i && all i) in
-    ap (λ (b : Bool). cond b (cond (leb (digits_value 10 (decimal n)) limit) (Ok (digits_value 10 (decimal n))) (Err TooLarge)) (Err NotNumber)) num
+    let long : leb 1 (length (decimal n)) ≡ true =
+    le-leb 1 (length (decimal n)) (omega (arith, decimal_nonempty n small)) in
+    let all : all_ascii_digits (decimal n) ≡ true = digits_decimal numeral_model n small in
+    let is : digits_value 10 (decimal n) ≡ n = digits_value-decimal numeral_model n small in
+    let fits : leb (digits_value 10 (decimal n)) limit ≡ true =
+    le-leb (digits_value 10 (decimal n)) limit (omega (arith, is)) in
+    let num : is_numeral (decimal n) ≡ true = (λ i. long i && all i) in
+    ap (λ (b : Bool). cond b
+    (cond (leb (digits_value 10 (decimal n)) limit) (Ok (digits_value 10 (decimal n)))
+    (Err TooLarge)) (Err NotNumber)) num
     ∙ ap (λ (b : Bool). cond b (Ok (digits_value 10 (decimal n))) (Err TooLarge)) fits
     ∙ ap (λ (m : ℕ). Ok m) is

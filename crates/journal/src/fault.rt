@@ -1,13 +1,15 @@
-// Why a line is malformed.
+//! Why a line is malformed.
 use crate::kind::Kind;
 use thiserror::Error;
 
+/// Why a line is no call, as docs/JOURNAL.md has it ("Malformed lines"). A fault is no refusal of
+/// the ledger: it has no number, and the run ends there.
 #[derive(Clone, Copy, PartialEq, Eq, Debug, Error)]
 pub enum Fault {
     #[error("no such call; `station --help` lists them")]
     UnknownCall,
-    // the call is known, and its words are not as it has them
-    #[error("the call is written: {}", form(*.0))]
+    /// The call is known, and its words are not as it has them.
+    #[error("the call is written: {}", .0.row())]
     Form(Kind),
     #[error("not a number: the digits 0 to 9 and nothing else")]
     NotNumber,
@@ -21,27 +23,4 @@ pub enum Fault {
     NotFile,
     #[error("the share rule is `running` or `largest`")]
     NotRule,
-}
-
-// How a call is written.
-fn form(kind: Kind) -> &'static str {
-    match kind {
-        Kind::Ledger => "ledger DAY",
-        Kind::Sheet => "sheet PLACES",
-        Kind::Profile => {
-            "profile NAME table FILE | profile NAME even FACTOR | profile NAME season SEGMENT FILE over NAME"
-        }
-        Kind::Trader => "trader [NAME]",
-        Kind::Point => "point TRADER SEGMENT DIGITS LITRES_PER_UNIT READING SCALE_FACTOR",
-        Kind::Open => "open TEMPERATURE SEASON",
-        Kind::Enter => "enter TRADER LITRES",
-        Kind::Inflow => "inflow LITRES RATE",
-        Kind::Share => "share PROFILE running | share PROFILE largest",
-        Kind::Abandon => "abandon",
-        Kind::Quantity => "quantity TRADER",
-        Kind::Read => "read POINT READING",
-        Kind::Book => "book POINT",
-        Kind::HandOver => "hand-over POINT TRADER",
-        Kind::Withdraw => "withdraw POINT",
-    }
 }

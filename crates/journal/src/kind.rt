@@ -1,9 +1,11 @@
-// The fixed words of the journal.
+//! The fixed words of the journal.
 ghost use Rattle.std.specs.Prelude.{◌≡◌, ℕ, List, Some};
 ghost use Rattle.std.specs.Str.{bytes_eq};
-ghost use Rattle.journal.specs.Vocabulary.{kind_own, kind_word, kinds, named, rule_own, rule_word, rules, shape_own, shape_word, shapes};
+ghost use Rattle.journal.specs.Vocabulary.{item_by_word, kind_by_word, kind_word, rule_by_word, rule_word, shape_by_word, shape_word};
 
-// The calls, by their first word.
+use crate::table::{CALLS, Row, calls};
+
+/// A call of the journal, which the first word of its line names. The order is that of the table.
 #[derive(Clone, Copy, PartialEq, Eq, Debug)]
 pub enum Kind {
     Ledger,
@@ -16,14 +18,14 @@ pub enum Kind {
     Inflow,
     Share,
     Abandon,
-    Quantity,
     Read,
     Book,
     HandOver,
     Withdraw,
+    Quantity,
 }
 
-// How a profile is made.
+/// How a profile is made: the word behind its name.
 #[derive(Clone, Copy, PartialEq, Eq, Debug)]
 pub enum Shape {
     Table,
@@ -31,85 +33,62 @@ pub enum Shape {
     Season,
 }
 
-// How a quantity is shared out.
+/// By which rule a quantity is shared out, as docs/RULES.md has them: the last word of `share`.
 #[derive(Clone, Copy, PartialEq, Eq, Debug)]
 pub enum Rule {
     Running,
     Largest,
 }
 
-// What goes by a fixed word.
+/// What goes by a fixed word of the journal.
 pub trait Worded: Copy + 'static {
-    ghost worded: { Self → List ℕ };
+    // the word's bytes
+    ghost word_of: { Self → List ℕ };
 
-    ghost cases: { List Self };
-
-    fn all() -> &'static [Self]
-        ensures { result.now ≡ cases };
-
+    /// The fixed word.
     fn word(&self) -> &'static str
-        ensures { result.now ≡ worded self.now };
+        ensures { result.now ≡ word_of self.now };
+}
 
-    // The first of all that goes by the word of any is that one.
-    ghost own: { (x : Self) → named worded cases (worded x) ≡ Some x };
+impl Kind {
+    /// The call's row in the table of calls.
+    pub fn row(self) -> Row
+        ensures kind { result.kind ≡ self }
+        ensures word { result.word.now ≡ kind_word self }
+    {
+        CALLS[self as usize]
+    }
+
+    /// The call that begins with a word.
+    pub fn from_word(word: &[u8]) -> Option<Kind>
+        ensures value { result ≡ kind_by_word word.now }
+        ensures own { (kind : Kind) → word.now ≡ kind_word kind → result ≡ Some kind }
+    {
+        let row = find(calls(), word)?;
+        Some(row.kind)
+    }
 }
 
 impl Worded for Kind {
-    ghost worded = { kind_word };
-
-    ghost cases = { kinds };
-
-    fn all() -> &'static [Kind] {
-        &[
-            Kind::Ledger,
-            Kind::Sheet,
-            Kind::Profile,
-            Kind::Trader,
-            Kind::Point,
-            Kind::Open,
-            Kind::Enter,
-            Kind::Inflow,
-            Kind::Share,
-            Kind::Abandon,
-            Kind::Quantity,
-            Kind::Read,
-            Kind::Book,
-            Kind::HandOver,
-            Kind::Withdraw,
-        ]
-    }
+    ghost word_of = { kind_word };
 
     fn word(&self) -> &'static str {
-        match self {
-            Kind::Ledger => "ledger",
-            Kind::Sheet => "sheet",
-            Kind::Profile => "profile",
-            Kind::Trader => "trader",
-            Kind::Point => "point",
-            Kind::Open => "open",
-            Kind::Enter => "enter",
-            Kind::Inflow => "inflow",
-            Kind::Share => "share",
-            Kind::Abandon => "abandon",
-            Kind::Quantity => "quantity",
-            Kind::Read => "read",
-            Kind::Book => "book",
-            Kind::HandOver => "hand-over",
-            Kind::Withdraw => "withdraw",
-        }
+        self.row().word
     }
+}
 
-    ghost own = { kind_own };
+impl Shape {
+    /// The shape that a word names.
+    pub fn from_word(word: &[u8]) -> Option<Shape>
+        ensures value { result ≡ shape_by_word word.now }
+        ensures own { (shape : Shape) → word.now ≡ shape_word shape → result ≡ Some shape }
+    {
+        find(&[Shape::Table, Shape::Even, Shape::Season], word)
+    }
 }
 
 impl Worded for Shape {
-    ghost worded = { shape_word };
-
-    ghost cases = { shapes };
-
-    fn all() -> &'static [Shape] {
-        &[Shape::Table, Shape::Even, Shape::Season]
-    }
+    ghost word_of = { shape_word };
 
     fn word(&self) -> &'static str {
         match self {
@@ -118,18 +97,20 @@ impl Worded for Shape {
             Shape::Season => "season",
         }
     }
+}
 
-    ghost own = { shape_own };
+impl Rule {
+    /// The share rule that a word names.
+    pub fn from_word(word: &[u8]) -> Option<Rule>
+        ensures value { result ≡ rule_by_word word.now }
+        ensures own { (rule : Rule) → word.now ≡ rule_word rule → result ≡ Some rule }
+    {
+        find(&[Rule::Running, Rule::Largest], word)
+    }
 }
 
 impl Worded for Rule {
-    ghost worded = { rule_word };
-
-    ghost cases = { rules };
-
-    fn all() -> &'static [Rule] {
-        &[Rule::Running, Rule::Largest]
-    }
+    ghost word_of = { rule_word };
 
     fn word(&self) -> &'static str {
         match self {
@@ -137,8 +118,6 @@ impl Worded for Rule {
             Rule::Largest => "largest",
         }
     }
-
-    ghost own = { rule_own };
 }
 
 // Whether a word is a given text.
@@ -148,12 +127,11 @@ pub(crate) fn is_word(word: &[u8], text: &str) -> bool
     word == text.as_bytes()
 }
 
-// What a word stands for. Each is read by its own word.
-pub(crate) fn read<W: Worded>(word: &[u8]) -> Option<W>
-    ensures value { result ≡ named W.worded W.cases word.now }
-    ensures own { (x : W) → word.now ≡ W.worded x → result ≡ Some x }
+// The first of a list that goes by a word.
+fn find<W: Worded>(items: &[W], word: &[u8]) -> Option<W>
+    ensures { result ≡ item_by_word W.word_of items.now word.now }
 {
-    W::all()
+    items
         .iter()
         .find(|item| is_word(word, item.word()))
         .copied()

@@ -1,7 +1,7 @@
-// Numbers in decimal digits.
+//! Numbers in decimal digits.
 ghost use Rattle.std.specs.Prelude.{◌≡◌, ℕ, ◌-◌, ◌^◌, ◌≤◌, true, false, ◌++◌, Ok, decimal, MatchOption, OnOk};
 ghost use Rattle.std.specs.Str.{all_ascii_digits};
-ghost use Rattle.journal.specs.Numbers.{above, below, Held, numeral, magnitude_of, number_of, tenths_of};
+ghost use Rattle.journal.specs.Numbers.{tenths_above_zero, tenths_below_zero, Narrows, is_numeral, magnitude_of, number_of, tenths_of};
 
 use crate::fault::Fault;
 use itoa::{Buffer, Integer};
@@ -16,7 +16,9 @@ fn all_digits(word: &[u8]) -> bool
 
 // One digit or more, and nothing else, as text.
 fn digits(word: &[u8]) -> Option<&str>
-    ensures { MatchOption result (numeral word.now ≡ false) (λ text. (text.now ≡ word.now) × (numeral word.now ≡ true)) }
+    ensures { MatchOption result
+        (is_numeral word.now ≡ false)
+        (λ text. (text.now ≡ word.now) × (is_numeral word.now ≡ true)) }
 {
     if word.is_empty() || !all_digits(word) {
         return None;
@@ -24,7 +26,8 @@ fn digits(word: &[u8]) -> Option<&str>
     str::from_utf8(word).ok()
 }
 
-// A number that keeps within a limit. What is written of a number is read as that number.
+/// A number that keeps within a limit. What `put_number` writes is read as the same number. Faults:
+/// `NotNumber`, and `TooLarge` for one above the limit.
 pub fn number(word: &[u8], limit: u64) -> Result<u64, Fault>
     ensures value { result ≡ number_of limit word.now }
     ensures back { (n : ℕ) → n ≤ limit → word.now ≡ decimal n → result ≡ Ok n }
@@ -44,11 +47,11 @@ fn read_number(word: &[u8], limit: u64) -> Result<u64, Fault>
     }
 }
 
-// A number of the type that its place has.
+// A number of the type that its place has: `TooLarge` where the type does not have it.
 pub(crate) fn read<N: TryFrom<u64>>(word: &[u8]) -> Result<N, Fault>
 where
     N::Error: Drop,
-    ensures { Held N.try_from_gives (number_of (2 ^ 64 - 1) word.now) result }
+    ensures { Narrows N.try_from_gives (number_of (2 ^ 64 - 1) word.now) result }
 {
     N::try_from(number(word, u64::MAX)?).map_err(|_| Fault::TooLarge)
 }
@@ -63,30 +66,32 @@ fn magnitude(word: &[u8]) -> Result<u64, Fault>
     }
 }
 
-fn raised(tenths: u64) -> Result<i16, Fault>
-    ensures { result ≡ above tenths }
+// A temperature that is 0 or above, in tenths of a degree.
+fn above_zero(tenths: u64) -> Result<i16, Fault>
+    ensures { result ≡ tenths_above_zero tenths }
 {
     i16::try_from(tenths).map_err(|_| Fault::TooLarge)
 }
 
-fn lowered(tenths: u64) -> Result<i16, Fault>
-    ensures { result ≡ below tenths }
+// A temperature that is written with a sign, in tenths of a degree.
+fn below_zero(tenths: u64) -> Result<i16, Fault>
+    ensures { result ≡ tenths_below_zero tenths }
 {
     let tenths = u16::try_from(tenths).map_err(|_| Fault::TooLarge)?;
     0i16.checked_sub_unsigned(tenths).ok_or(Fault::TooLarge)
 }
 
-// A temperature in tenths of a degree.
+// A temperature, in tenths of a degree: -32768 to 32767.
 pub(crate) fn tenths(word: &[u8]) -> Result<i16, Fault>
     ensures { result ≡ tenths_of word.now }
 {
     match word {
-        [b'-', rest @ ..] => lowered(magnitude(rest)?),
-        _ => raised(magnitude(word)?),
+        [b'-', rest @ ..] => below_zero(magnitude(rest)?),
+        _ => above_zero(magnitude(word)?),
     }
 }
 
-// Writes a number in decimal digits behind what is there.
+/// Writes a number in decimal digits behind what is there.
 pub fn put_number<N: Integer>(out: &mut Vec<u8>, n: N) -> Result<(), AllocError>
     ensures { OnOk result (out.new.items ≡ out.old.items ++ N.text n) }
 {

@@ -1,7 +1,7 @@
-// A line as a list of words.
+//! A line as a list of words.
 ghost use Rattle.std.specs.Prelude.{◌≡◌, ◌==◌, OnOk};
 ghost use Rattle.std.specs.List.{after_first, before_first, list_all, position};
-ghost use Rattle.journal.specs.Words.{blank, of_file, of_name, texts_of, uncommented_of, words_of};
+ghost use Rattle.journal.specs.Words.{is_blank_byte, is_file_byte, is_name_byte, texts_of, text_before_comment, words_of};
 
 use std::alloc::AllocError;
 
@@ -11,7 +11,7 @@ fn place_of(text: &[u8], mark: u8) -> Option<usize>
     text.iter().position(|b| *b == mark)
 }
 
-// The text up to the first such byte, and what stands behind that.
+// The text up to the first mark, and what stands behind that.
 pub(crate) fn cut_at(text: &[u8], mark: u8) -> (&[u8], &[u8])
     ensures front { result.0.now ≡ before_first (λ b. b == mark) text.now }
     ensures rest { result.1.now ≡ after_first (λ b. b == mark) text.now }
@@ -22,21 +22,22 @@ pub(crate) fn cut_at(text: &[u8], mark: u8) -> (&[u8], &[u8])
     }
 }
 
-// The line without its comment.
+/// The line without its comment.
 pub fn uncommented(line: &[u8]) -> &[u8]
-    ensures { result.now ≡ uncommented_of line.now }
+    ensures { result.now ≡ text_before_comment line.now }
 {
     cut_at(line, b'#').0
 }
 
 // Blanks stand between words.
 fn is_blank(b: u8) -> bool
-    ensures { result ≡ blank b }
+    ensures { result ≡ is_blank_byte b }
 {
     b == b' ' || b == b'\t' || b == b'\r'
 }
 
-// The words of a line, in order.
+/// Takes the words of a line, in order, in place of those of the line before. The line is one
+/// without its comment.
 pub fn split<'a>(line: &'a [u8], words: &mut Vec<&'a [u8]>) -> Result<(), AllocError>
     ensures { OnOk result (texts_of words.new.items ≡ words_of line.now) }
 {
@@ -44,21 +45,22 @@ pub fn split<'a>(line: &'a [u8], words: &mut Vec<&'a [u8]>) -> Result<(), AllocE
     words.extend(line.split(|b| is_blank(*b)).filter(|word| !word.is_empty()))
 }
 
-// Letters, digits, a few signs, and whatever is not ASCII.
+// A name has letters, digits, a few signs, and whatever is not ASCII.
 fn is_of_name(b: u8) -> bool
-    ensures { result ≡ of_name b }
+    ensures { result ≡ is_name_byte b }
 {
     b >= 128 || b.is_ascii_alphanumeric() || b == b'-' || b == b'_' || b == b'.'
 }
 
 pub(crate) fn is_name(word: &[u8]) -> bool
-    ensures { result ≡ list_all of_name word.now }
+    ensures { result ≡ list_all is_name_byte word.now }
 {
     word.iter().all(|b| is_of_name(*b))
 }
 
+// A file's name has no blank and no control character.
 pub(crate) fn is_file(word: &[u8]) -> bool
-    ensures { result ≡ list_all of_file word.now }
+    ensures { result ≡ list_all is_file_byte word.now }
 {
     word.iter().all(|b| *b > 32 && *b != 127)
 }

@@ -1,5 +1,6 @@
-// Plays one journal after the other, each as text and with commas under a line with its name: so the proved program is held against
-// all the outputs that the second program in Rust gave.
+//! Plays one journal after the other, each as text and then with commas, under a line with its
+//! name: so the proved program is held against every stored output. tools/copies writes what it is
+//! run on and what it has to print.
 #![tactic(auto)]
 
 use session::play_file;

@@ -1,5 +1,10 @@
--- What may be asked of a profile, and where a temperature stands in a sheet. Temperatures are tenths of a degree.
-use Rattle.std.specs.Prelude.{ℕ, ◌+◌, ◌*◌, Bool, cond, ◌&&◌, ℤ, pos, negsuc, ◌+ℤ◌, ◌-ℤ◌, int_le, int_lt, nat_lt, unsigned_abs}
+-- What a profile may be asked, and where a weather stands in a sheet. Temperatures are tenths of a
+-- degree Celsius.
+--
+-- The limits in specs/ are the rules' own numbers (docs/RULES.md). The code has constants of the
+-- same names, in capitals: the contracts say nothing of those, and the proofs show that they are
+-- these.
+use Rattle.std.specs.Prelude.{ℕ, ◌+◌, ◌*◌, Bool, ◌&&◌, ℤ, pos, negsuc, ◌+ℤ◌, ◌-ℤ◌, int_le, int_lt, nat_lt, unsigned_abs, if◌then◌else◌}
 use Rattle.profiles.specs.declared.weather.Weather.{Weather}
 
 -- -40.0 and 50.0 degrees
@@ -15,7 +20,8 @@ seasons = 4
 
 -- a weather that a profile may be asked about
 abbrev pub is_in_range : Weather → Bool
-is_in_range w = int_le coldest w.temperature && (int_le w.temperature hottest && nat_lt w.season seasons)
+is_in_range w =
+    int_le coldest w.temperature && int_le w.temperature hottest && nat_lt w.season seasons
 
 -- a segment that is served, in such a weather
 abbrev pub is_asked : ℕ → ℕ → Weather → Bool
@@ -31,18 +37,19 @@ last_tenth = pos 300
 abbrev pub columns : ℕ
 columns = 381
 
--- the last of them
 abbrev pub last_column : ℕ
 last_column = 380
 
--- a weather with the temperature of the k-th column in place of its own
-abbrev pub at_column : ℕ → Weather → Weather
-at_column k w = record w { temperature = first_tenth +ℤ pos k }
+-- the weather w, but at the temperature of column k
+abbrev pub weather_at : ℕ → Weather → Weather
+weather_at k w = record w { temperature = first_tenth +ℤ pos k }
 
 -- the column of a temperature: colder or warmer than the sheet goes, that of the nearer end
 abbrev pub column : ℤ → ℕ
-column t = cond (int_lt t first_tenth) 0 (cond (int_lt last_tenth t) last_column (unsigned_abs (t -ℤ first_tenth)))
+column t =
+    if int_lt t first_tenth then 0
+    else (if int_lt last_tenth t then last_column else unsigned_abs (t -ℤ first_tenth))
 
--- where a row and a weather stand in a sheet
+-- where a weather stands in a row of a sheet
 abbrev pub place : ℕ → Weather → ℕ
 place row w = row * columns + column w.temperature

@@ -1,5 +1,5 @@
 -- What a profile gives.
-use Rattle.std.specs.Prelude.{◌≡◌, ℕ, ◌≤◌, cond}
+use Rattle.std.specs.Prelude.{◌≡◌, ℕ, ◌≤◌, false, if◌then◌else◌}
 use Rattle.profiles.specs.declared.factors.Factors.{Factors}
 use Rattle.profiles.specs.declared.weather.Weather.{Weather}
 use Rattle.profiles.specs.Asked.{is_asked}
@@ -24,10 +24,16 @@ Tells = ℕ → Weather → Factors
 abbrev pub TellsFactors : Tells → Type 0
 TellsFactors tells = (segment : ℕ) (w : Weather) → AreFactors (tells segment w)
 
+-- outside its segments, the temperatures and the seasons, a profile gives 0 and 0
+abbrev pub TellsZeroOutside : ℕ → Tells → Type 0
+TellsZeroOutside segments tells =
+    (segment : ℕ) (w : Weather) → is_asked segments segment w ≡ false →
+    tells segment w ≡ factors_of 0 0
+
 -- whatever is asked, both give the same
 abbrev pub SameTells : Tells → Tells → Type 0
 SameTells p q = (segment : ℕ) (w : Weather) → p segment w ≡ q segment w
 
 -- these factors where a profile of so many segments may be asked, and else 0 and 0
 abbrev pub factors_where_asked : ℕ → ℕ → Weather → Factors → Factors
-factors_where_asked segments segment w f = cond (is_asked segments segment w) f (factors_of 0 0)
+factors_where_asked segments segment w f = if is_asked segments segment w then f else factors_of 0 0

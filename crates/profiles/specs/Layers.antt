@@ -1,8 +1,8 @@
 -- The season layer, and what it changes.
-use Rattle.std.specs.Prelude.{◌≡◌, ℕ, ◌+◌, ◌*◌, ◌/◌, ◌<◌, min, cond, List, ◌<ℤ◌, ◌==◌, ◌≢◌, slice_index}
+use Rattle.std.specs.Prelude.{◌≡◌, ℕ, ◌+◌, ◌*◌, ◌/◌, ◌<◌, min, List, ◌<ℤ◌, ◌==◌, ◌≢◌, slice_index, if◌then◌else◌}
 use Rattle.profiles.specs.declared.factors.Factors.{Factors}
 use Rattle.profiles.specs.declared.weather.Weather.{Weather}
-use Rattle.profiles.specs.Asked.{seasons, first_tenth, last_tenth, columns, last_column, at_column, place}
+use Rattle.profiles.specs.Asked.{seasons, first_tenth, last_tenth, columns, last_column, weather_at, place}
 use Rattle.profiles.specs.Laws.{whole, Tells}
 
 -- the segments are 0 to 7
@@ -20,14 +20,14 @@ max_season_number = 2 * whole
 abbrev pub scaled_factor : ℕ → ℕ → ℕ
 scaled_factor day number = min whole (day * number / whole)
 
--- factors with the day factor scaled
+-- the same factors, but with the day factor scaled
 abbrev pub scaled_factors : ℕ → Factors → Factors
 scaled_factors number f = record f { day = scaled_factor f.day number }
 
 -- what a layer makes of the factors below it: only its own segment's day factor is scaled
 abbrev pub layer_factors : ℕ → List ℕ → ℕ → Weather → Factors → Factors
 layer_factors own numbers segment w f =
-    cond (segment == own) (scaled_factors (slice_index numbers (place w.season w)) f) f
+    if segment == own then scaled_factors (slice_index numbers (place w.season w)) f else f
 
 -- the meaning of a layer over that of the profile below it
 abbrev pub layer_tells : ℕ → List ℕ → Tells → Tells
@@ -37,11 +37,12 @@ layer_tells own numbers below segment w = layer_factors own numbers segment w (b
 -- the season's k-th number at the k-th tenth, and by that of the nearer end colder or warmer than
 -- the sheet goes
 pub record Scales (own : ℕ) (sheet : List ℕ) (below tells : Tells) : Type 0 where
-  pub multipliers : (segment : ℕ) (w : Weather) → (tells segment w).multiplier ≡ (below segment w).multiplier
+  pub multipliers : (segment : ℕ) (w : Weather) →
+      (tells segment w).multiplier ≡ (below segment w).multiplier
   pub others : (segment : ℕ) (w : Weather) → (segment ≢ own) → tells segment w ≡ below segment w
   pub inside : (k : ℕ) (w : Weather) → k < columns → w.season < seasons →
-      (tells own (at_column k w)).day ≡
-      scaled_factor (below own (at_column k w)).day (slice_index sheet (w.season * columns + k))
+      (tells own (weather_at k w)).day ≡
+      scaled_factor (below own (weather_at k w)).day (slice_index sheet (w.season * columns + k))
   pub colder : (w : Weather) → w.temperature <ℤ first_tenth → w.season < seasons →
       (tells own w).day ≡ scaled_factor (below own w).day (slice_index sheet (w.season * columns))
   pub warmer : (w : Weather) → last_tenth <ℤ w.temperature → w.season < seasons →

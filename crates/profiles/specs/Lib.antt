@@ -4,4 +4,4 @@ pub mod Sheets
 pub mod Even
 pub mod Tables
 pub mod Layers
-pub mod Lawful
+pub mod ProfileLaws

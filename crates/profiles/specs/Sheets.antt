@@ -1,5 +1,5 @@
 -- Which sheets are taken.
-use Rattle.std.specs.Prelude.{ℕ, Bool, cond, ◌&&◌, List, length, Ok, Err, Result, ◌==◌, nat_le}
+use Rattle.std.specs.Prelude.{ℕ, Bool, ◌&&◌, List, length, Ok, Err, Result, ◌==◌, nat_le, if◌then◌else◌}
 use Rattle.std.specs.List.{list_all}
 use Rattle.refusals.specs.declared.Refusal.{Refusal}
 use Rattle.refusals.specs.declared.Refusal.TheVariants.{ProfileSheet}
@@ -8,5 +8,6 @@ use Rattle.refusals.specs.declared.Refusal.TheVariants.{ProfileSheet}
 abbrev pub fits : ℕ → ℕ → List ℕ → Bool
 fits cells limit xs = length xs == cells && list_all (λ x. nat_le x limit) xs
 
-abbrev pub verdict : ℕ → ℕ → List ℕ → Result (Unit {0}) Refusal
-verdict cells limit xs = cond (fits cells limit xs) (Ok tt) (Err ProfileSheet)
+-- the answer when a sheet is filled in
+abbrev pub fill_answer : ℕ → ℕ → List ℕ → Result (Unit {0}) Refusal
+fill_answer cells limit xs = if fits cells limit xs then Ok tt else Err ProfileSheet

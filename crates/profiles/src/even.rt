@@ -1,24 +1,28 @@
-// One factor for every segment, temperature and season.
+// The even profile: one factor for every segment and weather.
 ghost use Rattle.std.specs.Prelude.{◌≡◌, ◌<◌, ◌≤◌, MatchResult};
 ghost use Rattle.refusals.specs.declared.Refusal.TheVariants.{ProfileSheet};
 ghost use Rattle.profiles.specs.Laws.{whole};
 ghost use Rattle.profiles.specs.Even.{even_segments, even_tells};
-ghost use Rattle.profiles.specs.Lawful.{even_few, even_factors, not_asked};
+ghost use Rattle.profiles.specs.ProfileLaws.{even_few, even_tells_factors, even_tells_outside};
 
 use crate::factors::{Factors, WHOLE};
 use crate::profile::Profile;
 use crate::weather::Weather;
 use refusals::Refusal;
 
+/// One factor, as multiplier and as day factor, for 8 segments.
 #[derive(Drop)]
 pub struct EvenProfile {
     factor: u32,
-    ghost low: { factor ≤ whole },
+    ghost in_range: { factor ≤ whole },
 }
 
 impl EvenProfile {
+    /// Refused by 8 where the factor is above one.
     pub fn new(factor: u32) -> Result<EvenProfile, Refusal>
-        ensures { MatchResult result (λ p. p.factor ≡ factor) (λ why. (why ≡ ProfileSheet) × (whole < factor)) }
+        ensures { MatchResult result
+            (λ p. p.factor ≡ factor)
+            (λ why. (why ≡ ProfileSheet) × (whole < factor)) }
     {
         if factor > WHOLE {
             return Err(Refusal::ProfileSheet);
@@ -36,9 +40,9 @@ impl Profile for EvenProfile {
 
     ghost few = { even_few };
 
-    ghost are_factors = { λ p. even_factors p.factor p.low };
+    ghost are_factors = { λ p. even_tells_factors p.factor p.in_range };
 
-    ghost outside = { λ p segment w h. not_asked even_segments segment w _ h };
+    ghost outside = { λ p. even_tells_outside p.factor };
 
     fn tell(&self, segment: u32, weather: Weather) -> Factors {
         if segment >= Self::SEGMENTS || !weather.is_in_range() {

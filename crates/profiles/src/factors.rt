@@ -1,14 +1,16 @@
-// What a profile tells. A factor is a whole number of ten-millionths, 0 to 10,000,000.
-
+// What a profile gives.
 ghost use Rattle.std.specs.Prelude.{◌≡◌};
 ghost use Rattle.profiles.specs.Laws.{factors_of};
 
-// The factor one.
+/// The factor one: a factor is a whole number of ten-millionths, from 0 to this.
 pub const WHOLE: u32 = 10_000_000;
 
+/// Two factors, in ten-millionths.
 #[derive(Clone, Copy, Debug, PartialEq)]
 pub struct Factors {
+    /// Adds to a point's period sum.
     pub multiplier: u32,
+    /// Makes a point's profile consumption from its scale factor.
     pub day: u32,
 }
 
@@ -23,7 +25,7 @@ impl Factors {
         }
     }
 
-    // What is told where a profile has nothing to tell: the rule has it tell 0 and 0, and never refuse.
+    /// What a profile gives where it may not be asked.
     pub const NONE: Factors = Factors {
         multiplier: 0,
         day: 0,

@@ -1,4 +1,5 @@
-// Profiles: which factors belong to a segment of customers at a temperature, in a season.
+// Profiles: which factors belong to a segment of customers in a weather (docs/RULES.md,
+// "Profiles").
 #![tactic(auto)]
 
 mod even;

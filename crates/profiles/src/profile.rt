@@ -1,33 +1,30 @@
 // What every profile keeps.
-ghost use Rattle.std.specs.Prelude.{◌≡◌, ℕ, ◌≤◌, false};
+ghost use Rattle.std.specs.Prelude.{◌≡◌, ℕ, ◌≤◌};
 ghost use Rattle.profiles.specs.declared.factors.Factors.{Factors};
 ghost use Rattle.profiles.specs.declared.weather.Weather.{Weather};
-ghost use Rattle.profiles.specs.Asked.{is_asked};
-ghost use Rattle.profiles.specs.Laws.{factors_of, Tells, TellsFactors};
+ghost use Rattle.profiles.specs.Laws.{TellsFactors, TellsZeroOutside};
 
 use crate::factors::Factors;
 use crate::weather::Weather;
 
-// A profile tells a multiplier and a day factor for a segment, a temperature and a season. Both depend on these three
-// and on what the profile holds; it never refuses, and telling changes nothing.
+/// Two factors for each segment and weather (docs/RULES.md, "Profiles"). They depend on these and
+/// on what the profile holds; asking changes nothing.
 pub trait Profile {
-    // The number of segments served: segments 0 up to it.
+    /// The number of segments served, 1 to 8: segments 0 up to it.
     const SEGMENTS: u32;
 
     ghost SEGMENTS: { ℕ };
 
     ghost tells: { Self → ℕ → Weather → Factors };
 
+    /// The factors of a segment in a weather, and 0 and 0 where either is out of range. It never
+    /// refuses.
     fn tell(&self, segment: u32, weather: Weather) -> Factors
         ensures { result ≡ tells self.now segment weather };
 
-    // At least one segment is served, and at most eight.
     ghost few: { (1 ≤ SEGMENTS) × (SEGMENTS ≤ 8) };
 
-    // Both numbers are factors.
     ghost are_factors: { (p : Self) → TellsFactors (tells p) };
 
-    // Asked outside its segments, the temperatures or the seasons, it tells 0 and 0.
-    ghost outside: { (p : Self) (segment : ℕ) (w : Weather)
-        → is_asked SEGMENTS segment w ≡ false → tells p segment w ≡ factors_of 0 0 };
+    ghost outside: { (p : Self) → TellsZeroOutside SEGMENTS (tells p) };
 }

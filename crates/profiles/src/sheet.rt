@@ -1,12 +1,12 @@
 // A sheet of numbers, none of them above a limit.
 ghost use Rattle.std.specs.Prelude.{◌≡◌, ℕ, ◌<◌, ◌≤◌, length, replicate, is_ok, if◌then◌else◌, slice_index, nat_le};
 ghost use Rattle.std.specs.List.{list_all};
-ghost use Rattle.profiles.specs.Sheets.{verdict};
+ghost use Rattle.profiles.specs.Sheets.{fill_answer};
 
 use refusals::Refusal;
 
-// Whether no number is above the limit.
-fn all_within(limit: u32, sheet: &[u32]) -> bool
+// Whether no number of the sheet is above the limit.
+fn is_within(limit: u32, sheet: &[u32]) -> bool
     ensures { result ≡ list_all (λ x. nat_le x limit) sheet.now }
 {
     sheet.iter().all(|x| *x <= limit)
@@ -16,11 +16,11 @@ fn all_within(limit: u32, sheet: &[u32]) -> bool
 pub(crate) struct Sheet<const CELLS: usize, const LIMIT: u32> {
     numbers: [u32; CELLS],
     ghost long: { length numbers ≡ CELLS },
-    ghost low: { (k : ℕ) → slice_index numbers k ≤ LIMIT },
+    ghost in_range: { (k : ℕ) → slice_index numbers k ≤ LIMIT },
 }
 
 impl<const CELLS: usize, const LIMIT: u32> Sheet<CELLS, LIMIT> {
-    // A sheet that holds one number in every cell.
+    // One number in every cell.
     pub(crate) fn filled(number: u32) -> Sheet<CELLS, LIMIT>
         requires { number ≤ LIMIT }
         ensures { result.numbers ≡ replicate CELLS number }
@@ -32,10 +32,10 @@ impl<const CELLS: usize, const LIMIT: u32> Sheet<CELLS, LIMIT> {
 
     // Takes all the numbers over, or none of them.
     pub(crate) fn fill(&mut self, sheet: &[u32]) -> Result<(), Refusal>
-        ensures taken { result ≡ verdict CELLS LIMIT sheet.now }
+        ensures taken { result ≡ fill_answer CELLS LIMIT sheet.now }
         ensures after { self.new.numbers ≡ (if is_ok result then sheet.now else self.old.numbers) }
     {
-        if sheet.len() != CELLS || !all_within(LIMIT, sheet) {
+        if sheet.len() != CELLS || !is_within(LIMIT, sheet) {
             return Err(Refusal::ProfileSheet);
         }
         self.numbers.copy_from_slice(sheet);

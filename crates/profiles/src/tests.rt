@@ -1,4 +1,4 @@
-// The ends of the table, what is asked outside, refused sheets and a pile of layers.
+// The ends of the table, questions outside, refused sheets and a pile of layers.
 use crate::even::EvenProfile;
 use crate::factors::Factors;
 use crate::profile::Profile;
@@ -70,7 +70,8 @@ fn refused_sheets(rt: HostRuntime) {
     assert!(rt; tells(&table, 0, -80, 962_833) && tells(&table, 1, 300, 10_000_000));
 }
 
-// The table under a layer that halves segment 0's day factors and one that doubles segment 1's in summer.
+// The table under a layer that halves segment 0's day factors and one that doubles segment 1's in
+// summer.
 fn pile() -> Result<SeasonLayer<SeasonLayer<TableProfile>>, Fail> {
     let Ok(mut lower) = SeasonLayer::new(table(), 0) else {
         return Err(Fail::new("segment 0"));
@@ -86,7 +87,7 @@ fn pile() -> Result<SeasonLayer<SeasonLayer<TableProfile>>, Fail> {
     Ok(upper)
 }
 
-// A layer's sheet too short, too long and with a number past its limit: the pile tells what it told.
+// A layer's sheet too short, too long and with a number past its limit: the pile stays as it was.
 #[test]
 fn refused_layer_sheets(rt: HostRuntime) -> Result<(), Fail> {
     let mut pile = pile()?;

@@ -1,4 +1,4 @@
--- The number of each refusal: the one place where they are assigned.
+-- The number of each refusal, assigned here and nowhere else.
 use Rattle.std.specs.Prelude.{ℕ}
 use Rattle.refusals.specs.declared.Refusal.{Refusal}
 use Rattle.refusals.specs.declared.Refusal.TheVariants.{PointSheetLength, WorkSheetLength, NoSuchTrader, NoSuchPoint, Weather, Litres, Particulars, ProfileSheet, NoSuchDay, Energy, ForeignSheet, NotRunning, NotOpenSlip, DayRunning, NoMoreDays, TooMuchMetered, InflowTooSmall, NoPlace, SlipOpen, NoMoreReadings, SameTrader, SlipOpenAtShareOut, SegmentNotServed, NoWeight}

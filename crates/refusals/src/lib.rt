@@ -1,4 +1,4 @@
-// Why a call is refused: one list for every crate, and one number for each case.
+// The refusals of every crate: one list, and one number for each.
 #![tactic(auto)]
 
 ghost use Rattle.std.specs.Prelude.{◌≡◌};
@@ -6,7 +6,8 @@ ghost use Rattle.refusals.specs.Numbers.{number_of};
 
 use thiserror::Error;
 
-// Grounds 1 to 11 lie in what was handed in, 20 to 32 in how things stand. Each stands with its plain words and its number.
+/// Why a call is refused. Grounds 1 to 11 lie in what was handed in, 20 to 32 in how things stand
+/// (docs/REFUSALS.md).
 #[derive(Clone, Copy, PartialEq, Eq, Debug, Error)]
 pub enum Refusal {
     #[error("the point sheet is shorter than the points admitted, or has more than 4096 places")]
@@ -60,7 +61,7 @@ pub enum Refusal {
 }
 
 impl Refusal {
-    // The number under which the refusal is told: the enum's own, which only a cast reads.
+    /// The refusal's number, 1 to 32.
     pub fn number(self) -> u8
         ensures { result ≡ number_of self }
     {
@@ -68,8 +69,8 @@ impl Refusal {
     }
 }
 
-// A refusal that hands back what was given, where that cannot be copied. What was given comes first: it then lies in a result where
-// the accepted value does that it becomes part of, and LLVM takes seconds over a pile of layers; the other way round it took minutes.
+/// A refusal that hands back what was given, where that cannot be copied.
+// LLVM builds the program in seconds with `given` first, and in minutes with `why` first.
 #[derive(Drop)]
 pub struct Refused<T> {
     pub given: T,

@@ -1,4 +1,5 @@
-// The charges: each rule at, just inside and just past its tolerance and its offers, at 0 and at the limit; fee and tariff.
+//! The charges: each rule at, just inside and just past its tolerance and its offers, at 0 and at
+//! the limit; fee and tariff.
 use charges::balance::{Balance, OfferedBalance};
 use charges::megajoules::Megajoules;
 use charges::nomination::Nomination;
@@ -8,9 +9,11 @@ use refusals::Refusal;
 use std::process::Abort;
 use std::test::Fail;
 
-const MOST: u64 = 1_000_000_000_000;
+// The largest quantity, in MJ.
+const LIMIT: u64 = 1_000_000_000_000;
 
-// Nominated, actual, and the MJ charged. 12 per cent of 1,000 are 120, and of 1,008 they are 120 too.
+// Nominated, actual, and the MJ charged. 12 per cent of 1,000 are 120, and of 1,008 they are 120
+// too.
 const NOMINATIONS: [(u64, u64, u64); 16] = [
     (1000, 1000, 0),
     (1000, 1119, 0),
@@ -23,11 +26,11 @@ const NOMINATIONS: [(u64, u64, u64); 16] = [
     (1008, 1129, 1),
     (0, 0, 0),
     (0, 1, 1),
-    (0, MOST, MOST),
-    (MOST, MOST, 0),
-    (MOST, 880_000_000_000, 0),
-    (MOST, 879_999_999_999, 1),
-    (MOST, 0, 880_000_000_000),
+    (0, LIMIT, LIMIT),
+    (LIMIT, LIMIT, 0),
+    (LIMIT, 880_000_000_000, 0),
+    (LIMIT, 879_999_999_999, 1),
+    (LIMIT, 0, 880_000_000_000),
 ];
 
 // Source, consumption, and the MJ charged. 2 per cent of 5,049 are 100.
@@ -40,229 +43,55 @@ const BALANCES: [(u64, u64, u64); 13] = [
     (5049, 5150, 1),
     (0, 0, 0),
     (0, 1, 1),
-    (0, MOST, MOST),
-    (MOST, MOST, 0),
-    (MOST, 980_000_000_000, 0),
-    (MOST, 979_999_999_999, 1),
-    (MOST, 0, 980_000_000_000),
+    (0, LIMIT, LIMIT),
+    (LIMIT, LIMIT, 0),
+    (LIMIT, 980_000_000_000, 0),
+    (LIMIT, 979_999_999_999, 1),
+    (LIMIT, 0, 980_000_000_000),
 ];
 
-// A balance with offers, and the MJ charged.
-#[derive(Clone, Copy)]
-struct Offered {
-    source: u64,
-    consumption: u64,
-    negative: (u64, u64),
-    positive: (u64, u64),
-    charged: u64,
-}
+// Source, consumption, negative and positive offers, each as HEG and HEGO, and the MJ charged.
+type Offered = (u64, u64, (u64, u64), (u64, u64), u64);
 
-// A surplus of 1,000, of which 200 are tolerated; the offers lie below, just below, at and above it, or below the tolerance.
+// A surplus of 1,000, of which 200 are tolerated; the offers lie below, just below, at and above
+// it, or below the tolerance.
 const SURPLUSES: [Offered; 8] = [
-    Offered {
-        source: 10000,
-        consumption: 9000,
-        negative: (400, 300),
-        positive: (0, 0),
-        charged: 300,
-    },
-    Offered {
-        source: 10000,
-        consumption: 9000,
-        negative: (600, 399),
-        positive: (0, 0),
-        charged: 1,
-    },
-    Offered {
-        source: 10000,
-        consumption: 9000,
-        negative: (600, 400),
-        positive: (0, 0),
-        charged: 0,
-    },
-    Offered {
-        source: 10000,
-        consumption: 9000,
-        negative: (600, 401),
-        positive: (0, 0),
-        charged: 0,
-    },
-    Offered {
-        source: 10000,
-        consumption: 9000,
-        negative: (100, 50),
-        positive: (0, 0),
-        charged: 800,
-    },
-    Offered {
-        source: 10000,
-        consumption: 9000,
-        negative: (100, 100),
-        positive: (0, 0),
-        charged: 800,
-    },
-    Offered {
-        source: 10000,
-        consumption: 9000,
-        negative: (100, 101),
-        positive: (0, 0),
-        charged: 799,
-    },
-    Offered {
-        source: 10000,
-        consumption: 9000,
-        negative: (0, 0),
-        positive: (600, 400),
-        charged: 800,
-    },
+    (10_000, 9000, (400, 300), (0, 0), 300),
+    (10_000, 9000, (600, 399), (0, 0), 1),
+    (10_000, 9000, (600, 400), (0, 0), 0),
+    (10_000, 9000, (600, 401), (0, 0), 0),
+    (10_000, 9000, (100, 50), (0, 0), 800),
+    (10_000, 9000, (100, 100), (0, 0), 800),
+    (10_000, 9000, (100, 101), (0, 0), 799),
+    (10_000, 9000, (0, 0), (600, 400), 800),
 ];
 
 // A deficit of 1,000, of which 180 are tolerated, in the same way.
 const DEFICITS: [Offered; 8] = [
-    Offered {
-        source: 9000,
-        consumption: 10000,
-        negative: (0, 0),
-        positive: (400, 300),
-        charged: 300,
-    },
-    Offered {
-        source: 9000,
-        consumption: 10000,
-        negative: (0, 0),
-        positive: (600, 399),
-        charged: 1,
-    },
-    Offered {
-        source: 9000,
-        consumption: 10000,
-        negative: (0, 0),
-        positive: (600, 400),
-        charged: 0,
-    },
-    Offered {
-        source: 9000,
-        consumption: 10000,
-        negative: (0, 0),
-        positive: (600, 401),
-        charged: 0,
-    },
-    Offered {
-        source: 9000,
-        consumption: 10000,
-        negative: (0, 0),
-        positive: (100, 50),
-        charged: 820,
-    },
-    Offered {
-        source: 9000,
-        consumption: 10000,
-        negative: (0, 0),
-        positive: (100, 80),
-        charged: 820,
-    },
-    Offered {
-        source: 9000,
-        consumption: 10000,
-        negative: (0, 0),
-        positive: (100, 81),
-        charged: 819,
-    },
-    Offered {
-        source: 9000,
-        consumption: 10000,
-        negative: (600, 400),
-        positive: (0, 0),
-        charged: 820,
-    },
+    (9000, 10_000, (0, 0), (400, 300), 300),
+    (9000, 10_000, (0, 0), (600, 399), 1),
+    (9000, 10_000, (0, 0), (600, 400), 0),
+    (9000, 10_000, (0, 0), (600, 401), 0),
+    (9000, 10_000, (0, 0), (100, 50), 820),
+    (9000, 10_000, (0, 0), (100, 80), 820),
+    (9000, 10_000, (0, 0), (100, 81), 819),
+    (9000, 10_000, (600, 400), (0, 0), 820),
 ];
 
 // At the tolerance without any offers, at 0 and at the limit.
 const ENDS: [Offered; 12] = [
-    Offered {
-        source: 5049,
-        consumption: 4950,
-        negative: (0, 0),
-        positive: (0, 0),
-        charged: 0,
-    },
-    Offered {
-        source: 5049,
-        consumption: 4949,
-        negative: (0, 0),
-        positive: (0, 0),
-        charged: 0,
-    },
-    Offered {
-        source: 5049,
-        consumption: 4948,
-        negative: (0, 0),
-        positive: (0, 0),
-        charged: 1,
-    },
-    Offered {
-        source: 5049,
-        consumption: 5148,
-        negative: (0, 0),
-        positive: (0, 0),
-        charged: 0,
-    },
-    Offered {
-        source: 5049,
-        consumption: 5149,
-        negative: (0, 0),
-        positive: (0, 0),
-        charged: 0,
-    },
-    Offered {
-        source: 5049,
-        consumption: 5150,
-        negative: (0, 0),
-        positive: (0, 0),
-        charged: 1,
-    },
-    Offered {
-        source: 5000,
-        consumption: 5000,
-        negative: (0, 0),
-        positive: (0, 0),
-        charged: 0,
-    },
-    Offered {
-        source: 0,
-        consumption: 0,
-        negative: (0, 0),
-        positive: (0, 0),
-        charged: 0,
-    },
-    Offered {
-        source: 0,
-        consumption: MOST,
-        negative: (MOST, MOST),
-        positive: (0, 0),
-        charged: MOST,
-    },
-    Offered {
-        source: 0,
-        consumption: MOST,
-        negative: (0, 0),
-        positive: (MOST, 0),
-        charged: 0,
-    },
-    Offered {
-        source: MOST,
-        consumption: 0,
-        negative: (0, 0),
-        positive: (MOST, MOST),
-        charged: 980_000_000_000,
-    },
-    Offered {
-        source: MOST,
-        consumption: 0,
-        negative: (MOST, MOST),
-        positive: (0, 0),
-        charged: 0,
-    },
+    (5049, 4950, (0, 0), (0, 0), 0),
+    (5049, 4949, (0, 0), (0, 0), 0),
+    (5049, 4948, (0, 0), (0, 0), 1),
+    (5049, 5148, (0, 0), (0, 0), 0),
+    (5049, 5149, (0, 0), (0, 0), 0),
+    (5049, 5150, (0, 0), (0, 0), 1),
+    (5000, 5000, (0, 0), (0, 0), 0),
+    (0, 0, (0, 0), (0, 0), 0),
+    (0, LIMIT, (LIMIT, LIMIT), (0, 0), LIMIT),
+    (0, LIMIT, (0, 0), (LIMIT, 0), 0),
+    (LIMIT, 0, (0, 0), (LIMIT, LIMIT), 980_000_000_000),
+    (LIMIT, 0, (LIMIT, LIMIT), (0, 0), 0),
 ];
 
 // The rule charges so much, and says that it is inside exactly where that is nothing.
@@ -282,14 +111,15 @@ fn check_rows<C: Charge + TryFrom<(u64, u64), Error = Refusal> + Drop>(
     Ok(())
 }
 
+// Each balance with offers charges what its row says.
 fn check_offered(rt: &impl Abort, rows: &[Offered]) -> Result<(), Fail> {
-    for row in rows {
+    for (source, consumption, negative, positive, charged) in rows {
         let rule = OfferedBalance {
-            balance: (row.source, row.consumption).try_into()?,
-            negative: row.negative.try_into()?,
-            positive: row.positive.try_into()?,
+            balance: (*source, *consumption).try_into()?,
+            negative: (*negative).try_into()?,
+            positive: (*positive).try_into()?,
         };
-        check_rule(rt, &rule, row.charged);
+        check_rule(rt, &rule, *charged);
     }
     Ok(())
 }
@@ -322,14 +152,14 @@ fn ends_with_offers(rt: HostRuntime) -> Result<(), Fail> {
 #[test]
 fn quantities(rt: HostRuntime) {
     assert_eq!(rt; Megajoules::new(0).err(), None);
-    assert_eq!(rt; Megajoules::new(MOST).err(), None);
-    assert_eq!(rt; Megajoules::new(MOST + 1).err(), Some(Refusal::Energy));
+    assert_eq!(rt; Megajoules::new(LIMIT).err(), None);
+    assert_eq!(rt; Megajoules::new(LIMIT + 1).err(), Some(Refusal::Energy));
     assert_eq!(rt; Megajoules::new(u64::MAX).err(), Some(Refusal::Energy));
 }
 
 #[test]
 fn fees(rt: HostRuntime) -> Result<(), Fail> {
-    let largest = Nomination::try_from((0, MOST))?;
+    let largest = Nomination::try_from((0, LIMIT))?;
     let mut tariff = Tariff::new(1_000_000)?;
     assert_eq!(rt; tariff.fee(&largest), 1_000_000_000_000_000_000);
     assert_eq!(rt; tariff.fee(&Nomination::try_from((1000, 1120))?), 0);

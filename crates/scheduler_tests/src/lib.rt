@@ -1,4 +1,5 @@
-// Tests of the calendar and of the charges, at the ends of every range. What is expected was worked out from the rules.
+//! Tests of the calendar and of the charges, at the ends of every range. What is expected was
+//! worked out from the rules.
 #![tactic(auto)]
 
 #[cfg(test)]

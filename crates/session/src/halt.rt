@@ -1,4 +1,4 @@
-// Why the playing of a journal stopped.
+//! Why the playing of a journal stopped, and how the program ends.
 use journal::fault::Fault;
 use journal::lines::SheetFault;
 use player::slips::Unended;
@@ -7,6 +7,8 @@ use std::alloc::AllocError;
 use std::io;
 use thiserror::Error;
 
+/// Why a journal is played no further. It is printed on standard error with the line, and the
+/// status is then 1: docs/JOURNAL.md, "Malformed lines".
 #[derive(Clone, Copy, Debug, Error)]
 pub enum Halt {
     #[error("no call: a journal begins with `ledger DAY`; `station --help` says more")]
@@ -35,17 +37,18 @@ impl From<AllocError> for Halt {
     }
 }
 
-// How the program ends: with what was asked for done, or after an error that was told.
+/// How the program ends: with what was asked for done, or after an error that is printed already.
 #[derive(Clone, Copy)]
 pub enum Ending {
     Done,
     Failed,
 }
 
-// Why the program ends with an error. A slip cannot be let go, so one that the ledger would not take back, which does not happen to a
-// ledger's own, is handed on to be ended elsewhere.
+/// Why the program ends with an error that is not printed yet.
 pub enum Stop {
     Error(anyhow::Error),
+    /// Slips that the ledger did not take back. A slip cannot be dropped, so they are handed on to
+    /// be ended elsewhere. A ledger takes back each slip of its own, so this does not happen.
     Unended(Unended),
 }
 

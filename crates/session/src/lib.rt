@@ -1,4 +1,5 @@
-// The program `station`: plays a journal of calls on a station's ledger, and prints what each was told.
+//! The program `station`: plays a journal of calls on a station's ledger, and prints the answer to
+//! each. docs/JOURNAL.md has its command line, its input and its output.
 #![tactic(auto)]
 
 ghost use Rattle.std.specs.Prelude.{◌≤◌};
@@ -9,10 +10,10 @@ mod help;
 mod session;
 
 use halt::{Ending, Stop};
-use help::{HELP, MAKE_ONE};
+use help::{MAKE_ONE, print_help};
 use player::slips::Unended;
 use session::play;
-use std::io::{ErrorKind, Read, Write};
+use std::io::{ErrorKind, Read};
 use std::process::ExitCode;
 use std::{env, fs};
 
@@ -52,7 +53,7 @@ fn read_args(rt: &HostRuntime) -> anyhow::Result<Asked> {
     Ok(asked)
 }
 
-// The journal's bytes, or `None` once it was told why there are none.
+// The journal's bytes, or `None` once it is printed why there are none.
 fn read_journal(rt: &HostRuntime, path: Option<&str>) -> anyhow::Result<Option<Vec<u8>>> {
     let Some(path) = path else {
         let mut text = Vec::new(rt.alloc());
@@ -81,7 +82,7 @@ fn try_file(rt: &HostRuntime, path: Option<&str>, csv: bool) -> Result<Ending, S
 fn answer(rt: &HostRuntime) -> Result<Ending, Stop> {
     match read_args(rt)? {
         Asked::Help => {
-            rt.stdout().write_all(HELP.as_bytes())?;
+            print_help(rt)?;
             Ok(Ending::Done)
         }
         Asked::Wrong => {
@@ -94,7 +95,8 @@ fn answer(rt: &HostRuntime) -> Result<Ending, Stop> {
     }
 }
 
-// The status that the program ends with: 0 where it is done, 1 where it failed or where an error ended it, which is told here.
+// The status that the program ends with: 0 where it is done, 1 where it failed or where an error
+// ended it, which is printed here.
 fn status(rt: &HostRuntime, ending: Result<Ending, Stop>) -> ExitCode
     ensures { exit_status result ≤ 1 }
 {
@@ -102,7 +104,7 @@ fn status(rt: &HostRuntime, ending: Result<Ending, Stop>) -> ExitCode
         Ok(Ending::Done) => ExitCode::SUCCESS,
         Ok(Ending::Failed) => ExitCode::FAILURE,
         Err(Stop::Error(e)) => {
-            let _told = eprintln!(rt; "Error: {e:?}");
+            let _printed = eprintln!(rt; "Error: {e:?}");
             ExitCode::FAILURE
         }
         Err(Stop::Unended(Unended { slips })) => {
@@ -112,14 +114,17 @@ fn status(rt: &HostRuntime, ending: Result<Ending, Stop>) -> ExitCode
     }
 }
 
-// Plays the journal of a file, or of standard input. Which of the two statuses it tells, and what is printed, is only compared.
+/// Plays the journal of a file, or of standard input where there is no path. With `csv` the fields
+/// of a line are separated by commas. The status is 0 where the journal was played to its end, and
+/// 1 after an error. No clause says which of the two it is, nor what is printed.
 pub fn play_file(rt: &HostRuntime, path: Option<&str>, csv: bool) -> ExitCode
     ensures { exit_status result ≤ 1 }
 {
     status(rt, try_file(rt, path, csv))
 }
 
-// Does what the command line asks for, and promises the same.
+/// Does what the command line asks for: prints help, or plays a journal. The status is 1 after an
+/// error, else 0.
 pub fn run(rt: &HostRuntime) -> ExitCode
     ensures { exit_status result ≤ 1 }
 {

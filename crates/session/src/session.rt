@@ -1,4 +1,4 @@
-// The lines of a journal, one after the other.
+//! The lines of a journal, one after the other.
 use crate::halt::{Ending, Halt, Stop};
 use journal::call::{Call, parse};
 use journal::lines::{Lines, read_sheet};
@@ -16,17 +16,17 @@ use std::path::Path;
 // Lines and their numbers.
 type Numbered<'a> = Zip<RangeFrom<u64>, Lines<'a>>;
 
-// Prints what is gathered once it is this long.
+// What is gathered is printed once it has so many bytes.
 const FULL: usize = 65_536;
 
-// How much of a malformed line is shown.
+// How many bytes of a malformed line are shown.
 const LONGEST: usize = 200;
 
 // A journal that is played, at the line that was begun last.
 #[derive(Drop)]
 struct Session<'a> {
     rt: &'a HostRuntime,
-    // the journal's file
+    // the journal's file, and none for standard input
     path: Option<&'a str>,
     line: u64,
     text: &'a [u8],
@@ -41,14 +41,15 @@ impl<'a> Session<'a> {
         done.map_err(|_| Halt::Output)
     }
 
-    // Goes on to a line: the call that it says.
-    fn said(&mut self, line: u64, text: &'a [u8]) -> Result<Option<Call<'a>>, Halt> {
+    // Goes on to a line, and reads the call that it says.
+    fn call_at(&mut self, line: u64, text: &'a [u8]) -> Result<Option<Call<'a>>, Halt> {
         self.line = line;
         self.text = text;
         split(uncommented(text), &mut self.words)?;
         Ok(parse(self.words.as_slice())?)
     }
 
+    // The bytes of a file that the journal names, which is looked for from the journal's folder.
     fn file_bytes(&self, name: &str) -> Result<Vec<u8>, Halt> {
         let rt = self.rt;
         let read = match self.path.and_then(|path| Path::new(path).parent()) {
@@ -61,7 +62,7 @@ impl<'a> Session<'a> {
         })
     }
 
-    // The numbers of a call's file, and an empty list where it has no file: an `Option` would be taken apart only to be made one again.
+    // The numbers of a call's file: none where it has no file.
     fn numbers(&self, call: Call<'_>) -> Result<Vec<u32>, Halt> {
         let (Call::Table { file, .. } | Call::Season { file, .. }) = call else {
             return Ok(Vec::new(self.rt.alloc()));
@@ -74,7 +75,7 @@ impl<'a> Session<'a> {
     // Plays the first call, which has to be `ledger`.
     fn begin(&mut self, lines: &mut Numbered<'a>) -> Result<Player, Halt> {
         for (line, text) in lines.by_ref() {
-            match self.said(line, text)? {
+            match self.call_at(line, text)? {
                 None => {}
                 Some(Call::Ledger { first_day }) => {
                     let heap = self.rt.alloc();
@@ -88,7 +89,7 @@ impl<'a> Session<'a> {
 
     // Plays one line.
     fn step(&mut self, player: &mut Player, line: u64, text: &'a [u8]) -> Result<(), Halt> {
-        let Some(call) = self.said(line, text)? else {
+        let Some(call) = self.call_at(line, text)? else {
             return Ok(());
         };
         let numbers = self.numbers(call)?;
@@ -111,7 +112,7 @@ impl<'a> Session<'a> {
         self.end(played)
     }
 
-    // Prints what is left, and tells where the journal stopped, if it did.
+    // Prints what is left, and where the journal stopped, if it did.
     fn end(&mut self, played: Result<(), Halt>) -> Result<Ending, Stop> {
         match self.flush().and(played) {
             Ok(()) => Ok(Ending::Done),
@@ -122,7 +123,7 @@ impl<'a> Session<'a> {
         }
     }
 
-    // Tells where the journal stopped: the file, the line, the line itself and the reason.
+    // Prints where the journal stopped: the file, the line, the line itself and the reason.
     fn complain(&self, why: Halt) -> anyhow::Result<()> {
         let (rt, line) = (self.rt, self.line);
         let file = self.path.unwrap_or("standard input");
@@ -153,7 +154,7 @@ fn shown(heap: Global, line: &[u8]) -> anyhow::Result<Vec<u8>> {
     Ok(text)
 }
 
-// Plays a journal, prints what its calls were told, and tells where it stopped.
+// Plays a journal, and prints the answers to its calls and where it stopped.
 pub(crate) fn play<'a>(
     rt: &'a HostRuntime,
     path: Option<&'a str>,

@@ -1,5 +1,5 @@
 -- A guarded rule keeps the laws of share rules.
-use Rattle.std.specs.Prelude.{◌≡◌, ℕ, ◌+◌, ◌*◌, ◌<◌, true, List, length, sum, slice_index}
+use Rattle.std.specs.Prelude.{◌≡◌, ℕ, true, List, length, sum, slice_index}
 use Rattle.std.proofs.Common.{sym, ap, subst, ◌∙◌, ⊎_elim, mul-zero, arith}
 use Rattle.std.proofs.lemmas.Nat.{mul-le}
 use Rattle.std.proofs.lemmas.List.{length-replicate, get_or-replicate}
@@ -32,8 +32,9 @@ module _ (rule : Rule) (laws : SharesFairly rule) where
     idle = λ a ws i in' z.
         cond_both (fair a ws) _ _ (λ l. slice_index l i ≡ 0)
         (λ h.
-        let near = subst (λ w. Near a (sum ws) w (slice_index (rule a ws) i)) z (laws.near a ws i h in') in
-        near_zero a (sum ws) (slice_index (rule a ws) i) near)
+        let x = slice_index (rule a ws) i in
+        let near = subst (λ w. Near a (sum ws) w x) z (laws.near a ws i h in') in
+        near_zero a (sum ws) x near)
         (λ _. get_or-replicate (length ws) i 0 0 in');
     refused = λ a ws h. cond-false _ _ _ h;
   }

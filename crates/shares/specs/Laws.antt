@@ -1,5 +1,5 @@
 -- The laws of share rules.
-use Rattle.std.specs.Prelude.{◌≡◌, ℕ, ◌<◌, true, false, cond, List, length, sum, slice_index}
+use Rattle.std.specs.Prelude.{◌≡◌, ℕ, ◌<◌, true, false, List, length, sum, slice_index, if◌then◌else◌}
 use Rattle.shares.specs.Fair.{fair, zeros, Near}
 
 -- the meaning of a rule: the shares of a quantity by weights
@@ -30,7 +30,8 @@ pub record IsShareRule (rule : Rule) : Type 0 where
   -- what cannot be shared is not shared at all
   pub refused : (a : ℕ) (ws : List ℕ) → fair a ws ≡ false → rule a ws ≡ zeros (length ws)
 
--- the laws of a rule for what can be shared: the other two laws come with its guard
+-- the laws of a rule for what can be shared; of the other two, idle follows from near, and refused
+-- from the guard
 pub record SharesFairly (rule : Rule) : Type 0 where
   pub places : GivesOneEach rule
   pub whole : SharesWhole rule
@@ -38,4 +39,4 @@ pub record SharesFairly (rule : Rule) : Type 0 where
 
 -- the rule where the quantity can be shared, and else 0 for every place
 abbrev pub guarded_rule : Rule → Rule
-guarded_rule rule a ws = cond (fair a ws) (rule a ws) (zeros (length ws))
+guarded_rule rule a ws = if fair a ws then rule a ws else zeros (length ws)

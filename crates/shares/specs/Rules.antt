@@ -1,5 +1,5 @@
--- The two rules by which a quantity is shared.
-use Rattle.std.specs.Prelude.{ℕ, ◌+◌, ◌-◌, ◌*◌, ◌/◌, ◌%◌, cond, ltb, List, map, length, take, sum, count_by, nat_eq, nat_lt, slice_index}
+-- The two rules by which a quantity of a litres is shared by the weights ws.
+use Rattle.std.specs.Prelude.{ℕ, ◌+◌, ◌-◌, ◌*◌, ◌/◌, ◌%◌, List, map, length, take, sum, count_by, nat_eq, nat_lt, slice_index, if◌then◌else◌}
 use Rattle.std.specs.List.{range_with_len}
 
 -- one share for each weight, by its place
@@ -29,13 +29,19 @@ remainders a ws = map (λ w. a * w % sum ws) ws
 unfoldable pub litres_left : ℕ → List ℕ → ℕ
 litres_left a ws = a - sum (floors a ws)
 
--- how many places come before place i: those with a larger remainder, and the lower places with an equal one
+-- how many places come before place i: those with a larger remainder, and the lower places with an
+-- equal one
 unfoldable pub places_ahead : List ℕ → ℕ → ℕ
-places_ahead rs i = count_by (λ r. ltb (slice_index rs i) r) rs + count_by (λ r. nat_eq r (slice_index rs i)) (take i rs)
+places_ahead rs i =
+    count_by (λ r. nat_lt (slice_index rs i) r) rs
+    + count_by (λ r. nat_eq r (slice_index rs i)) (take i rs)
 
--- largest remainder: the floor, and one litre more while there are litres left for the places before
+-- largest remainder: the floor, and one litre more while there are litres left for the places
+-- before
 unfoldable pub largest_remainder_share : ℕ → List ℕ → ℕ → ℕ
-largest_remainder_share a ws i = slice_index (floors a ws) i + cond (nat_lt (places_ahead (remainders a ws) i) (litres_left a ws)) 1 0
+largest_remainder_share a ws i =
+    slice_index (floors a ws) i
+    + (if nat_lt (places_ahead (remainders a ws) i) (litres_left a ws) then 1 else 0)
 
 unfoldable pub largest_remainder_shares : ℕ → List ℕ → List ℕ
 largest_remainder_shares a ws = shares_by_place (largest_remainder_share a ws) ws

@@ -1,7 +1,7 @@
-// Where a number of the largest remainders is cut off.
-ghost use Rattle.std.specs.Prelude.{◌≡◌, ◌-◌, ◌<◌, ◌≤◌, IfNone, IfSome, length, count_by, nat_le, nat_lt};
+// Where the largest of a sheet of remainders are cut off from the others.
+ghost use Rattle.std.specs.Prelude.{◌≡◌, ◌-◌, ◌<◌, ◌≤◌, IfNone, IfSome, length};
 ghost use Rattle.shares.specs.Fair.{max_weights, max_total};
-ghost use Rattle.shares.specs.Counts.{IsCut};
+ghost use Rattle.shares.specs.Counts.{count_above, count_from, IsCut};
 
 use crate::largest::Rounding;
 use std::cmp::Ordering;
@@ -9,15 +9,15 @@ use std::cmp::Ordering;
 // How many turns guess where the cut lies before they halve.
 const GUESSES: u8 = 5;
 
-// All above `at` are cut off, and the first `more` places at it.
+// All remainders above `at` are cut off, and the first `more` of those at it.
 #[derive(Clone, Copy)]
 pub(crate) struct Cut {
     pub(crate) at: u64,
     pub(crate) more: u64,
 }
 
-// From where to where the cut of the first `wanted` places may lie among the remainders. `reach` of them are `low` or more,
-// and `past` of them are above `high`.
+// The marks between which the cut of the first `wanted` places lies: `reach` of the remainders are
+// `low` or more, and `past` of them are above `high`.
 #[derive(Drop)]
 pub(crate) struct Span<'a> {
     rems: &'a [u64],
@@ -29,14 +29,14 @@ pub(crate) struct Span<'a> {
     ghost places: { length rems.now ≤ max_weights },
     ghost limit: { high ≤ max_total },
     ghost order: { low ≤ high },
-    ghost reached: { reach ≡ count_by (λ x. nat_le low x) rems.now },
-    ghost passed: { past ≡ count_by (λ x. nat_lt high x) rems.now },
+    ghost reached: { reach ≡ count_from rems.now low },
+    ghost passed: { past ≡ count_above rems.now high },
     ghost enough: { wanted ≤ reach },
     ghost few: { past ≤ wanted },
 }
 
 impl<'a> Span<'a> {
-    // The cut of the litres that are left may lie anywhere among the remainders.
+    // From 0 to the sum of the weights, which no remainder reaches.
     pub(crate) fn whole(rounding: &'a Rounding) -> Span<'a>
         ensures rems { result.rems.now ≡ rounding.now.sheet.now }
         ensures wanted { result.wanted ≡ rounding.now.rest }
@@ -46,15 +46,15 @@ impl<'a> Span<'a> {
             wanted: rounding.rest,
             low: 0,
             high: rounding.sharing.total,
-            // A cast: there is no `u64::from` of a `usize`.
             reach: rounding.sheet.len() as u64,
             past: 0,
         }
     }
 
-    // How many of the remainders are above `mark`: a sum of ones, since with `filter` and `count` the rule takes a tenth longer.
+    // How many of the remainders are above `mark`. A sum of ones is faster than `filter` and
+    // `count`.
     fn above(&self, mark: u64) -> u64
-        ensures { result ≡ count_by (λ x. nat_lt mark x) self.now.rems.now }
+        ensures { result ≡ count_above self.now.rems.now mark }
     {
         self.rems.iter().map(|r| u64::from(*r > mark)).sum()
     }
@@ -70,12 +70,13 @@ impl<'a> Span<'a> {
         step.min(width - 1)
     }
 
-    // The least remainder from `low` on, or `high` where none is below that: as many reach it as reach `low`.
-    // The test stands in the fold: with a `filter` before it, the rule takes a twelfth longer.
+    // The least remainder from `low` on, or `high` where none is below that: as many reach it as
+    // reach `low`. A test in the fold is faster than a `filter` before it.
     fn least(&self) -> u64
         ensures from { self.now.low ≤ result }
         ensures to { result ≤ self.now.high }
-        ensures same { count_by (λ x. nat_le result x) self.now.rems.now ≡ count_by (λ x. nat_le self.now.low x) self.now.rems.now }
+        ensures same { count_from self.now.rems.now result
+            ≡ count_from self.now.rems.now self.now.low }
     {
         self.rems.iter().fold(
             self.high,
@@ -83,11 +84,13 @@ impl<'a> Span<'a> {
         )
     }
 
-    // The greatest remainder up to `high`, or `low` where none is above that: as many are above it as are above `high`.
+    // The greatest remainder up to `high`, or `low` where none is above that: as many are above it
+    // as are above `high`.
     fn greatest(&self) -> u64
         ensures from { self.now.low ≤ result }
         ensures to { result ≤ self.now.high }
-        ensures same { count_by (λ x. nat_lt result x) self.now.rems.now ≡ count_by (λ x. nat_lt self.now.high x) self.now.rems.now }
+        ensures same { count_above self.now.rems.now result
+            ≡ count_above self.now.rems.now self.now.high }
     {
         self.rems.iter().fold(
             self.low,
@@ -99,7 +102,7 @@ impl<'a> Span<'a> {
         )
     }
 
-    // Comes nearer: to the least and the greatest remainder in it.
+    // Brings both marks to the nearest remainder between them.
     fn narrow(&mut self)
         ensures rems { self.new.rems.now ≡ self.old.rems.now }
         ensures wanted { self.new.wanted ≡ self.old.wanted }
@@ -113,10 +116,12 @@ impl<'a> Span<'a> {
     fn cut_at(&mut self, mark: u64) -> Option<Cut>
         requires from { self.old.low ≤ mark }
         requires to { mark < self.old.high }
-        ensures cut { IfSome result (λ cut. IsCut self.old.rems.now self.old.wanted cut.at cut.more) }
+        ensures cut { IfSome result
+            (λ cut. IsCut self.old.rems.now self.old.wanted cut.at cut.more) }
         ensures rems { self.new.rems.now ≡ self.old.rems.now }
         ensures wanted { self.new.wanted ≡ self.old.wanted }
-        ensures nearer { IfNone result (self.new.high - self.new.low < self.old.high - self.old.low) }
+        ensures nearer { IfNone result
+            (self.new.high - self.new.low < self.old.high - self.old.low) }
     {
         let above = self.above(mark);
         match above.cmp(&self.wanted) {
@@ -133,8 +138,8 @@ impl<'a> Span<'a> {
         None
     }
 
-    // The cut of the first `wanted` places. The first turns guess. Where that does not hit on a cut, as when it lies among equal
-    // remainders, the others halve what is left between two of them.
+    // The cut of the first `wanted` places. The first turns guess. Where no guess hits it, as when
+    // it lies among equal remainders, the others halve what is left between two of them.
     pub(crate) fn find_cut(mut self) -> Cut
         ensures { IsCut self.entry.rems.now self.entry.wanted result.at result.more }
     {

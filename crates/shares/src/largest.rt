@@ -1,7 +1,7 @@
-// The rule of the largest remainders, with no place to sort in: the remainders stand in the sheet of shares until the
-// cut between those that get a litre more and those that do not is found among them, by halving.
+// The rule of the largest remainders. There is no place to sort in: the remainders stand in the
+// sheet of shares until the cut is found between those that get a litre more and those that do not.
 ghost use Rattle.std.specs.Prelude.{◌≡◌, ◌≤◌, length};
-ghost use Rattle.shares.specs.Rules.{largest_remainder_shares, remainders, litres_left};
+ghost use Rattle.shares.specs.Rules.{remainders, litres_left, largest_remainder_shares};
 ghost use Rattle.shares.specs.Counts.{IsCut};
 ghost use Rattle.shares.specs.LargestLaws.{largest_laws};
 
@@ -9,8 +9,8 @@ use crate::cut::{Cut, Span};
 use crate::rule::ProportionalRule;
 use crate::sharing::Sharing;
 
-// Each place gets its floor, and the litres left go one each to the largest remainders, the lower place first where
-// they are equal.
+/// Each place gets its proportion rounded down, and the litres left go one each to the largest
+/// remainders, the lower place first where they are equal (docs/RULES.md, "Share rules").
 #[derive(Clone, Copy)]
 pub struct LargestRemainder;
 
@@ -23,7 +23,6 @@ impl ProportionalRule for LargestRemainder {
         let cut = Rounding::new(sharing, out).cut();
         // A litre more for those above the cut, and for the first places at it.
         let mut more = cut.more;
-        // By index, as in `Running`.
         for (i, w) in sharing.weights.iter().enumerate() {
             let r = out[i];
             let extra = if r > cut.at {
@@ -39,7 +38,8 @@ impl ProportionalRule for LargestRemainder {
     }
 }
 
-// A sharing whose floors are taken off: the sheet holds the remainders, and `rest` litres are left.
+// A sharing with every proportion rounded down: the sheet holds the remainders, and `rest` litres
+// are left.
 #[derive(Drop)]
 pub(crate) struct Rounding<'s, 'w> {
     pub(crate) sharing: Sharing<'w>,
@@ -56,7 +56,6 @@ impl<'s, 'w> Rounding<'s, 'w> {
         ensures same_sheet { result.sheet.ghost_name ≡ sheet.entry.ghost_name }
     {
         let mut given = 0;
-        // By index, as in `Running`.
         for (i, w) in sharing.weights.iter().enumerate() {
             given += sharing.floor(*w);
             sheet[i] = sharing.remainder(*w);
@@ -68,7 +67,7 @@ impl<'s, 'w> Rounding<'s, 'w> {
         }
     }
 
-    // Between those that get a litre more and those that do not.
+    // Between the places that get a litre more and those that do not.
     fn cut(&self) -> Cut
         ensures { IsCut self.now.sheet.now self.now.rest result.at result.more }
     {

@@ -1,4 +1,4 @@
-// What every share rule keeps.
+// What every share rule keeps, and what a rule must give to be one.
 ghost use Rattle.std.specs.Prelude.{◌≡◌, ℕ, List, length};
 ghost use Rattle.shares.specs.Fair.{sheet_after};
 ghost use Rattle.shares.specs.Laws.{IsShareRule, SharesFairly, guarded_rule};
@@ -6,20 +6,22 @@ ghost use Rattle.shares.specs.Guarding.{guarded_laws};
 
 use crate::sharing::Sharing;
 
-/// A rule by which a quantity is shared among weights. The rules and limits are in docs/RULES.md.
+/// A rule by which a quantity is shared among weights (docs/RULES.md, "Share rules"). The shares
+/// depend on these two alone.
 pub trait ShareRule {
-    // The shares depend on the quantity and the weights alone.
     ghost shares: { ℕ → List ℕ → List ℕ };
 
-    /// Writes the shares of `quantity` litres over `out`, or zeros where it cannot be shared or where
-    /// `out` has not one place for each weight. It never refuses.
+    /// Writes the shares of `quantity` litres over `out`, and zeros where it cannot be shared by
+    /// the weights, or where `out` has not as many places. It never refuses.
     fn share(&self, quantity: u64, weights: &[u64], out: &mut [u64])
-        ensures { out.new ≡ sheet_after (shares quantity weights.now) weights.now (length out.old) };
+        ensures { out.new
+            ≡ sheet_after (shares quantity weights.now) weights.now (length out.old) };
 
     ghost laws: { IsShareRule shares };
 }
 
-/// A rule for what can be shared. With zeros for all else it is a share rule.
+/// A rule for what can be shared, which is all that a new rule has to give: with zeros for all else
+/// it is a share rule.
 pub trait ProportionalRule {
     ghost rule: { ℕ → List ℕ → List ℕ };
 

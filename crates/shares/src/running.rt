@@ -5,7 +5,8 @@ ghost use Rattle.shares.specs.RunningLaws.{running_laws};
 use crate::rule::ProportionalRule;
 use crate::sharing::Sharing;
 
-// Each place gets what the weights up to it get together, less what those before it got.
+/// Each place gets what the weights up to it get together, rounded down, less what those before it
+/// got (docs/RULES.md, "Share rules").
 #[derive(Clone, Copy)]
 pub struct Running;
 
@@ -17,7 +18,6 @@ impl ProportionalRule for Running {
     fn share_fairly(&self, sharing: &Sharing, out: &mut [u64]) {
         let mut sum = 0;
         let mut given = 0;
-        // By index: after `zip(out.iter_mut())` a proof knows the length of `out` and nothing else of it.
         for (i, w) in sharing.weights.iter().enumerate() {
             sum += *w;
             let so_far = sharing.floor(sum);

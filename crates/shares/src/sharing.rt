@@ -1,21 +1,23 @@
-// A quantity and weights by which it can be shared.
+// A quantity and the weights by which it can be shared.
 ghost use Rattle.std.specs.Prelude.{◌≡◌, ◌*◌, ◌/◌, ◌%◌, ◌≤◌, true, false, IfSome, IfNone, sum};
 ghost use Rattle.shares.specs.Fair.{max_quantity, max_total, fair};
 
-// The most litres that are shared at once.
+/// The most litres that are shared at once.
 pub const MAX_QUANTITY: u64 = 1_000_000_000;
 
-// The most weights.
+/// The most weights.
 pub const MAX_WEIGHTS: usize = 4096;
 
-// The largest weight.
+/// The largest weight.
 pub const MAX_WEIGHT: u64 = 2_000_000;
 
-// The quantity and the weights are within their limits, and the weights are not all 0.
+/// A quantity and weights within their limits, not all of them 0 (docs/RULES.md, "Share rules").
 #[derive(Clone, Copy)]
 pub struct Sharing<'a> {
+    /// In litres.
     pub quantity: u64,
     pub weights: &'a [u64],
+    /// The sum of the weights.
     pub total: u64,
     pub ghost fairly: { fair quantity weights.now ≡ true },
     pub ghost whole: { total ≡ sum weights.now },
@@ -23,9 +25,10 @@ pub struct Sharing<'a> {
 }
 
 impl<'a> Sharing<'a> {
-    // The sharing of the quantity by the weights, if it can be shared by them.
+    /// The sharing of `quantity` litres by the weights, if they can be shared by them.
     pub fn new(quantity: u64, weights: &'a [u64]) -> Option<Sharing<'a>>
-        ensures some { IfSome result (λ f. (f.quantity ≡ quantity) × (f.weights.now ≡ weights.now)) }
+        ensures some { IfSome result
+            (λ s. (s.quantity ≡ quantity) × (s.weights.now ≡ weights.now)) }
         ensures none { IfNone result (fair quantity weights.now ≡ false) }
     {
         if quantity > MAX_QUANTITY || weights.len() > MAX_WEIGHTS {
@@ -45,7 +48,7 @@ impl<'a> Sharing<'a> {
         })
     }
 
-    // The exact proportion of `weight`, rounded down.
+    /// The exact proportion of `weight`, rounded down to litres.
     pub fn floor(&self, weight: u64) -> u64
         requires { weight ≤ sum self.now.weights.now }
         ensures value { result ≡ self.now.quantity * weight / sum self.now.weights.now }
@@ -54,7 +57,7 @@ impl<'a> Sharing<'a> {
         self.quantity * weight / self.total
     }
 
-    // What the rounding cuts off, in parts of the sum of the weights.
+    /// What that rounding cuts off, in parts of a litre: as many as the weights sum to make one.
     pub fn remainder(&self, weight: u64) -> u64
         requires { weight ≤ sum self.now.weights.now }
         ensures { result ≡ self.now.quantity * weight % sum self.now.weights.now }

@@ -20,14 +20,14 @@ fn figures(rt: HostRuntime) {
 }
 
 #[test]
-fn ties_and_noughts(rt: HostRuntime) {
+fn ties_and_zeros(rt: HostRuntime) {
     assert!(rt; gives(&LargestRemainder, 5, &[2, 2, 2], &[2, 2, 1]));
     assert!(rt; gives(&LargestRemainder, 1, &[0, 3, 3], &[0, 1, 0]));
     assert!(rt; gives(&Running, 1, &[0, 3, 3], &[0, 0, 1]));
     assert!(rt; gives(&Running, 9, &[0, 0, 0], &[0, 0, 0]));
 }
 
-fn within_limits<R: ShareRule>(rule: &R) -> bool {
+fn shares_at_limits<R: ShareRule>(rule: &R) -> bool {
     gives(
         rule,
         MAX_QUANTITY,
@@ -36,14 +36,14 @@ fn within_limits<R: ShareRule>(rule: &R) -> bool {
     ) && gives(rule, 3, &[MAX_WEIGHT, MAX_WEIGHT, MAX_WEIGHT], &[1, 1, 1])
 }
 
-fn past_limits<R: ShareRule>(rule: &R) -> bool {
+fn shares_nothing_past_limits<R: ShareRule>(rule: &R) -> bool {
     gives(rule, MAX_QUANTITY + 1, &[1, 0, 1], &[0, 0, 0])
         && gives(rule, 3, &[1, MAX_WEIGHT + 1, 1], &[0, 0, 0])
         && gives(rule, 3, &[1, 1], &[0, 0, 0])
         && gives(rule, 3, &[1, 1, 1, 0], &[0, 0, 0])
 }
 
-fn at_most_weights<R: ShareRule>(rule: &R) -> bool {
+fn shares_most_weights<R: ShareRule>(rule: &R) -> bool {
     let mut out = [7; 4096];
     rule.share(8192, &[1; 4096], &mut out);
     let mut more = [7; 4097];
@@ -53,7 +53,9 @@ fn at_most_weights<R: ShareRule>(rule: &R) -> bool {
 
 #[test]
 fn limits(rt: HostRuntime) {
-    assert!(rt; within_limits(&Running) && within_limits(&LargestRemainder));
-    assert!(rt; past_limits(&Running) && past_limits(&LargestRemainder));
-    assert!(rt; at_most_weights(&Running) && at_most_weights(&LargestRemainder));
+    assert!(rt; shares_at_limits(&Running) && shares_at_limits(&LargestRemainder));
+    assert!(rt;
+        shares_nothing_past_limits(&Running) && shares_nothing_past_limits(&LargestRemainder)
+    );
+    assert!(rt; shares_most_weights(&Running) && shares_most_weights(&LargestRemainder));
 }

@@ -1,4 +1,4 @@
-// Plays a journal of calls on a station's ledger, and prints what each was told.
+//! Plays a journal of calls on a station's ledger, and prints the answer to each.
 #![tactic(auto)]
 
 use session::run;

@@ -1,15 +1,14 @@
 -- The shares of a day are in proportion to what the settlements before it say.
-use Rattle.std.proofs.Common.{◌≡◌, ℕ, ◌*◌, ◌<◌, ◌≤◌, min, Bool, true, false, cond, ◌&&◌, eqb, ltb, leb, List, [], ◌∷◌, map, length, get_or, take, sum, count_by, sym, refl, ap, ◌∙◌, subst, ⊎_elim, mul-le-mul, arith}
+use Rattle.std.proofs.Common.{◌≡◌, ℕ, ◌*◌, ◌<◌, ◌≤◌, min, true, false, ◌&&◌, eqb, ltb, List, map, length, get_or, take, sum, sym, ap, ◌∙◌, subst, ⊎_elim, mul-le-mul, arith}
 use native.Mathlib.Nat.{div-le_of_le-mul}
 use Rattle.std.specs.List.{range_with_len, AllByRecursion as All}
 use Rattle.std.proofs.lemmas.List.FromFn.{fill_by_all, length-map-range_with_len, get_or-map-range_with_len}
 use Rattle.std.proofs.ByRecursion.{All-from_get_or}
 use Rattle.std.proofs.lemmas.List.{length-map, length-take, get_or-map, get_or-take, get_or-replicate}
-use Rattle.std.proofs.lemmas.List.Sums.{sum_by-cons}
-use Rattle.std.proofs.lemmas.Bool.{lt-ltb, le-ltb, le-leb, eq-eqb, ltb-false, eqb-false, and_from, and_cases, cases_lt}
+use Rattle.std.proofs.lemmas.Bool.{ltb-false, eqb-false, and_cases, cases_lt}
 use Rattle.profiles.specs.declared.factors.Factors.{Factors}
-use Rattle.shares.specs.Fair.{fair, max_quantity, max_weights, max_weight}
-use Rattle.shares.specs.Fairness.{weightless}
+use Rattle.shares.specs.Fair.{max_quantity, max_weights, max_weight}
+use Rattle.shares.proofs.Limits.{weightless, is_fair}
 use Rattle.rows.specs.declared.point.Point.{Point}
 use Rattle.rows.specs.Rows.{row_at, no_row, profile_consumption, profile_consumptions}
 use Rattle.ledger.proofs.Keep.{shares_within}
@@ -75,24 +74,6 @@ weights_small c d n small =
     omega arith)
 
 -- Proportions.
-
-none_over : (ws : List ℕ) → All (λ w. w ≤ max_weight) ws → count_by (λ w. ltb max_weight w) ws ≡ 0
-none_over [] h = refl
-none_over (w ∷ ws) h =
-    let one : ◌≡◌ {A = ℕ} (cond (ltb max_weight w) 1 0) 0 = ap
-    (λ (b : Bool). cond b 1 0) (le-ltb max_weight w h.0) in
-    let rest = none_over ws h.1 in
-    let sum = sum_by-cons (λ (x : ℕ). cond (ltb max_weight x) 1 0) w ws in
-    omega arith
-
-is_fair : (a : ℕ) (ws : List ℕ) → a ≤ max_quantity → length ws ≤ max_weights →
-    All (λ w. w ≤ max_weight) ws → 0 < sum ws → fair a ws ≡ true
-unfolding fair
-is_fair a ws few short small some =
-    and_from (leb a max_quantity) _ (le-leb _ _ few)
-    (and_from (leb (length ws) max_weights) _ (le-leb _ _ short)
-    (and_from (eqb (count_by (λ w. ltb max_weight w) ws) 0) _ (eq-eqb _ 0 (none_over ws small))
-    (lt-ltb _ _ some)))
 
 -- a lawful rule's shares are in proportion, and zero where nobody has weight
 proportional : (rule : Rule) (a : ℕ) (ws : List ℕ) (k : ℕ) → IsShareRule rule → a ≤ max_quantity →

@@ -4,9 +4,9 @@ use Rattle.std.proofs.lemmas.Result.{err_from_is_err_and}
 use Rattle.journal.specs.Words.{texts_of}
 use Rattle.journal.specs.Numbers.{number_of}
 use Rattle.journal.specs.Calls.{max32}
-use Rattle.journal.proofs.Eachs.{each_more, each_fault, numbers_is}
-use Rattle.journal.proofs.Helds.{held}
-use Rattle.journal.proofs.Texts.{text_at, texts_at}
+use Rattle.journal.proofs.NumberLists.{numbers_after-more, numbers_after-fault, numbers_of-numbers_within}
+use Rattle.journal.proofs.Narrowing.{number_of-from_Narrows}
+use Rattle.journal.proofs.Texts.{text_at, get_or-texts_of}
 use Rattle.journal.proofs.call.numbers.Goals as goal
 
 pub loop-i-preserved : goal.loop-i-preserved
@@ -19,9 +19,13 @@ loop-i-preserved g c =
     let hl : i < length limits = omega arith in
     let hw : i < length (texts_of ws) = omega arith in
     let hf : i < length c.loop-i.found = omega (arith, c.loop-i.invariant.0) in
-    let n = held 32 max32 (text_at ws i) _ refl (lit< tt) c.in_ok-found.ensures in (
+    let n =
+    number_of-from_Narrows 32 max32 (text_at ws i) _ refl (lit< tt) c.in_ok-found.ensures in (
       length-set c.loop-i.found i _ ∙ c.loop-i.invariant.0,
-      c.loop-i.invariant.1 ∙ each_more limits (texts_of ws) c.loop-i.found i c.in_ok-found.field-0 hl hw hf (n ∙ (λ j. number_of (sym (get_or-replicate g.row.N i max32 0 (omega arith)) j) (sym (texts_at ws i) j))),
+      c.loop-i.invariant.1 ∙ numbers_after-more limits (texts_of ws) c.loop-i.found i
+          c.in_ok-found.field-0 hl hw hf
+          (n ∙ (λ j. number_of (sym (get_or-replicate g.row.N i max32 0 (omega arith)) j)
+          (sym (get_or-texts_of ws i) j))),
     )
 
 pub returns-in_err-found : goal.returns-in_err-found
@@ -34,8 +38,13 @@ returns-in_err-found g c =
     let hl : i < length limits = omega arith in
     let hw : i < length (texts_of ws) = omega arith in
     let same : length (texts_of ws) ≡ length limits = omega arith in
-    let n = held 32 max32 (text_at ws i) _ refl (lit< tt) c.in_err-found.ensures in
+    let n = number_of-from_Narrows 32 max32 (text_at ws i) _ refl (lit< tt)
+    c.in_err-found.ensures in
     let broke = err_from_is_err_and c.from_residual.result c.from_residual.ensures.1 in
     broke.1 ∙ ap Err broke.2
-    ∙ sym (c.loop-i.invariant.1 ∙ each_fault limits (texts_of ws) c.loop-i.found i 0 hl hw (take i c.loop-i.found) c.in_err-found.field-0.0 (n ∙ (λ j. number_of (sym (get_or-replicate g.row.N i max32 0 (omega arith)) j) (sym (texts_at ws i) j))))
-    ∙ numbers_is c.args.kind limits (texts_of ws) same
+    ∙ sym (c.loop-i.invariant.1
+    ∙ numbers_after-fault limits (texts_of ws) c.loop-i.found i 0 hl hw (take i c.loop-i.found)
+    c.in_err-found.field-0.0
+    (n ∙ (λ j. number_of (sym (get_or-replicate g.row.N i max32 0 (omega arith)) j)
+    (sym (get_or-texts_of ws i) j))))
+    ∙ numbers_of-numbers_within c.args.kind limits (texts_of ws) same

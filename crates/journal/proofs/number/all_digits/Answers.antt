@@ -2,8 +2,10 @@ use Rattle.std.proofs.Common.{rules, tests, ◌∙◌}
 use Rattle.std.proofs.lemmas.Iterator.{YieldsList-from_slice}
 use Rattle.std.proofs.lemmas.Iterator.Search.{all_from_yields_List}
 use Rattle.std.specs.Char.{is_ascii_digit}
-use Rattle.journal.proofs.Decimals.{digits_all}
+use Rattle.journal.proofs.Decimals.{list_all-is_ascii_digit}
 use Rattle.journal.proofs.number.all_digits.Goals as goal
 
 pub returns : goal.returns
-returns c = all_from_yields_List is_ascii_digit _ _ _ c.all.ensures.ran (YieldsList-from_slice _ c.iter.ensures.rest) (λ x b q k. search (rules, tests)) ∙ digits_all c.args.word.now
+returns c = all_from_yields_List is_ascii_digit _ _ _ c.all.ensures.ran
+    (YieldsList-from_slice _ c.iter.ensures.rest) (λ x b q k. search (rules, tests))
+    ∙ list_all-is_ascii_digit c.args.word.now

@@ -1,5 +1,5 @@
 use Rattle.std.proofs.Common.{◌≡◌, rules}
-use Rattle.shares.specs.Counts.{greatest, greatest_is}
+use Rattle.shares.proofs.Cutting.{greatest, greatest_is}
 use Rattle.shares.proofs.cut.Span.greatest.Goals as goal
 
 pub returns : goal.returns

@@ -1,5 +1,5 @@
 use Rattle.std.proofs.Common.{◌≡◌, rules}
-use Rattle.shares.specs.Counts.{least, least_is}
+use Rattle.shares.proofs.Cutting.{least, least_is}
 use Rattle.shares.proofs.cut.Span.least.Goals as goal
 
 pub returns : goal.returns

@@ -1,11 +1,21 @@
 use Rattle.std.proofs.Common.{sym, arith}
-use Rattle.shares.specs.Counts.{reach_all}
-use Rattle.shares.specs.LargestLaws.{cuttable}
+use Rattle.shares.specs.Counts.{count_from-zero}
+use Rattle.shares.proofs.Cutting.{may_be_cut}
 use Rattle.shares.proofs.cut.Span.whole.Goals as goal
 
 pub invariant_of-result : goal.invariant_of-result
 invariant_of-result c =
-    let rounding = c.args.rounding.now in
-    let sharing = rounding.sharing in
-    let f = cuttable sharing.quantity sharing.weights.now sharing.total rounding.rest rounding.sheet.now sharing.fairly sharing.whole rounding.rems rounding.remain in
-    record { places = f.places; limit = f.limit; order = omega arith; reached = sym (reach_all _); passed = f.none; enough = f.most; few = omega arith }
+    let r = c.args.rounding.now in
+    let s = r.sharing in
+    let ws = s.weights.now in
+    let f =
+    may_be_cut s.quantity ws s.total r.rest r.sheet.now s.fairly s.whole r.rems r.remain in
+    record {
+      places = f.places;
+      limit = f.limit;
+      order = omega arith;
+      reached = sym (count_from-zero _);
+      passed = f.none;
+      enough = f.most;
+      few = omega arith;
+    }
