@@ -5,8 +5,8 @@ use Rattle.ledger.specs.declared.book.Book.{Book}
 use Rattle.rows.specs.declared.point.Point.{Point}
 use Rattle.ledger.specs.declared.slip.Slip.{Slip}
 use Rattle.ledger.specs.Grounds.{unless}
-use Rattle.ledger.specs.Outcomes.{tested}
-use Rattle.ledger.specs.Readings.{read_fault, reading_at, reading_done}
+use Rattle.ledger.specs.Outcomes.{call_outcome}
+use Rattle.ledger.specs.Readings.{reading_fault, reading_at, accepted_reading}
 use Rattle.ledger.proofs.AcceptedReadings.{reads}
 use Rattle.ledger.proofs.Grounds.{by_option, by_unless}
 use Rattle.ledger_tests.specs.Slips.{Endable}
@@ -21,4 +21,4 @@ made l s k v b r er eb =
     let some : 0 < l.counts.readings + 1 = omega arith in
     subst (λ (y : Book). IfOk r (λ x. Endable y x)) (sym eb)
     (subst (λ (z : Result Slip Refusal). IfOk z (λ x. Endable (reading_at l s k v).book x)) (sym er)
-    (by_option (λ o. let g = tested o l s (reading_done l s k v) in IfOk g.answer (λ x. Endable g.book x)) (read_fault l s k v) (λ none. (some, (reads l s k v none).there.admitted)) (λ _. tt)))
+    (by_option (λ o. let g = call_outcome o l s (accepted_reading l s k v) in IfOk g.answer (λ x. Endable g.book x)) (reading_fault l s k v) (λ none. (some, (reads l s k v none).there.admitted)) (λ _. tt)))

@@ -2,7 +2,7 @@
 // a day to another ledger would have to take a struct of both apart again. A day cannot be let go, so each function here ends the day that it
 // is handed, or says what still stands.
 ghost use Rattle.std.specs.Prelude.{◌≡◌, true, IfOk, IfErr, MatchResult};
-ghost use Rattle.ledger.specs.Days.{is_open, is_measured};
+ghost use Rattle.ledger.specs.Tokens.{is_open, is_measured};
 
 use crate::seen::{Outcome, Seen, number_of};
 use ledger::{Ledger, MeasuredDay, OpenDay, Point, Refused, SharedOut};

@@ -1,6 +1,6 @@
 // Opening days.
 ghost use Rattle.std.specs.Prelude.{◌≡◌, true};
-ghost use Rattle.ledger.specs.Days.{is_open};
+ghost use Rattle.ledger.specs.Tokens.{is_open};
 
 use crate::days::{end_open, measured, opened, shared_out};
 use crate::seen::{Outcome, Seen};

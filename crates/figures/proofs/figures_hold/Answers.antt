@@ -1,12 +1,12 @@
 -- Each figure by working out both sides.
 use Rattle.std.proofs.Common.{◌≡◌, refl, ◌∙◌, Ok, rules}
 use Rattle.shares.specs.Fair.{fair}
-use Rattle.shares.specs.Rules.{upto, running_share, running, floors, remainders, left, ahead, largest_share, largest}
+use Rattle.shares.specs.Rules.{share_up_to, running_share, running_shares, floors, remainders, litres_left, places_ahead, largest_remainder_share, largest_remainder_shares}
 use Rattle.calendar.specs.Days.{days_before_month, days_before_year}
 use Rattle.figures.proofs.figures_hold.Goals as goal
 
 pub returns-clause-figures : goal.returns-clause-figures
-unfolding fair upto running_share running floors remainders left ahead largest_share largest days_before_month days_before_year
+unfolding fair share_up_to running_share running_shares floors remainders litres_left places_ahead largest_remainder_share largest_remainder_shares days_before_month days_before_year
 returns-clause-figures c =
     record {
       equal_running = refl;
@@ -20,7 +20,7 @@ returns-clause-figures c =
       day_running = refl;
       day_largest = refl;
       season = refl;
-      rolled_over = refl;
+      rolled_over = λ g. refl;
       correction = refl;
       scale_factor = λ old. refl;
       nomination_inside = refl;

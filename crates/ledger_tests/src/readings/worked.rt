@@ -1,6 +1,6 @@
 // Bookings worked out by hand, and what ledger and sheet then hold.
 ghost use Rattle.std.specs.Prelude.{◌≡◌, true};
-ghost use Rattle.ledger.specs.Days.{is_measured};
+ghost use Rattle.ledger.specs.Tokens.{is_measured};
 
 use crate::days::{measured, shared_out};
 use crate::readings::slips::{Call, ended, reading};
