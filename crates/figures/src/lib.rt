@@ -1,4 +1,4 @@
-// The worked figures of the rules, established of the definitions that the contracts use.
+//! The worked figures of the rules, established of the definitions that the contracts use.
 #![tactic(auto)]
 
 ghost use Rattle.std.specs.Prelude.{◌≡◌};

@@ -1,4 +1,4 @@
-// Abandoning days, open and measured.
+//! Abandoning days, open and measured.
 use crate::days::{end_measured, end_open, ending_measured, ending_open, entry, measured, opened};
 use crate::seen::{Outcome, Seen};
 use crate::station::two_traders;

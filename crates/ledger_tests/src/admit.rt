@@ -1,4 +1,4 @@
-// Admitting traders and points.
+//! Admitting traders and points.
 use crate::seen::{Outcome, Seen, number_of};
 use crate::station::{GIVEN, ROW, SECOND, SHEET, two_points, two_traders};
 use ledger::{Ledger, Particulars, Point};

@@ -1,6 +1,6 @@
-// Days for the tests. Each helper says in its contract what it leaves of the running day. A token goes beside its ledger: the tests that bring
-// a day to another ledger would have to take a struct of both apart again. A day cannot be let go, so each function here ends the day that it
-// is handed, or says what still stands.
+//! Days for the tests. Each helper says in its contract what it leaves of the running day. A token goes beside its ledger: the tests that bring
+//! a day to another ledger would have to take a struct of both apart again. A day cannot be let go, so each function here ends the day that it
+//! is handed, or says what still stands.
 ghost use Rattle.std.specs.Prelude.{◌≡◌, true, IfOk, IfErr, MatchResult};
 ghost use Rattle.ledger.specs.Tokens.{is_open, is_measured};
 

@@ -1,4 +1,4 @@
-// Entering metered litres into an open day.
+//! Entering metered litres into an open day.
 ghost use Rattle.std.specs.Prelude.{◌≡◌};
 
 use crate::days::{end_measured, end_open, entry, measured, opened};

@@ -1,4 +1,4 @@
-// Taking the inflow of an open day.
+//! Taking the inflow of an open day.
 ghost use Rattle.std.specs.Prelude.{◌≡◌, IfSome};
 
 use crate::days::{end_measured, end_open, entry, opened, taking};

@@ -1,4 +1,4 @@
-// Opening days.
+//! Opening days.
 ghost use Rattle.std.specs.Prelude.{◌≡◌, true};
 ghost use Rattle.ledger.specs.Tokens.{is_open};
 

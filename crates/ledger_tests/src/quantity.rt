@@ -1,4 +1,4 @@
-// A trader's open quantity.
+//! A trader's open quantity.
 use crate::seen::number_of;
 use crate::station::{SECOND, two_points};
 use ledger::Point;

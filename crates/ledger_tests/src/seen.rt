@@ -1,4 +1,4 @@
-// What a test sees of a ledger before and after a call.
+//! What a test sees of a ledger before and after a call.
 use ledger::{Counts, Ledger};
 use refusals::Refusal;
 

@@ -1,4 +1,4 @@
-// Share-outs that are refused.
+//! Share-outs that are refused.
 use crate::days::{end_measured, measured, sharing_out};
 use crate::seen::{Outcome, Seen};
 use crate::station::{ROW, SECOND, SHEET, two_points};

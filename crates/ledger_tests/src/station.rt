@@ -1,4 +1,4 @@
-// A station of two traders with a point each.
+//! A station of two traders with a point each.
 use ledger::{Ledger, Particulars, Point};
 use std::test::Fail;
 

@@ -1,4 +1,4 @@
-// Days worked out by hand, and what every account and sheet then holds.
+//! Days worked out by hand, and what every account and sheet then holds.
 use crate::days::{end_measured, measured, shared_out};
 use crate::seen::Seen;
 use crate::station::{GIVEN, ROW, SECOND, two_points};

@@ -1,5 +1,5 @@
-// Slips of another ledger. A slip is only its number and its point, so wherever these two are this ledger's, it is taken for this
-// ledger's own.
+//! Slips of another ledger. A slip is only its number and its point, so wherever these two are this ledger's, it is taken for this
+//! ledger's own.
 ghost use Rattle.std.specs.Prelude.{◌≡◌};
 
 use crate::readings::slips::{Call, brought, ended, reading};

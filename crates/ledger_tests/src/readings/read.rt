@@ -1,4 +1,4 @@
-// Reading points: what is refused, and what a withdrawn reading leaves.
+//! Reading points: what is refused, and what a withdrawn reading leaves.
 use crate::readings::slips::{Call, end, ended, reading};
 use crate::readings::station::{TWIN, twins};
 use crate::seen::{Outcome, Seen};

@@ -1,4 +1,4 @@
-// Bookings, hand-overs and withdrawals that are refused.
+//! Bookings, hand-overs and withdrawals that are refused.
 use crate::readings::slips::{Call, brought, ended, reading};
 use crate::readings::station::{TWIN, three_points, twins};
 use crate::seen::{Outcome, Seen, number_of};

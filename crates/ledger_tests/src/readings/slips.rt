@@ -1,5 +1,5 @@
-// Slips for the tests. A slip cannot be let go, so each function here ends the slip that it is handed, or says how it can be ended, and what
-// that asks of the ledger. Ledger, sheet, slip and call go by themselves, since a test brings each to another's.
+//! Slips for the tests. A slip cannot be let go, so each function here ends the slip that it is handed, or says how it can be ended, and what
+//! that asks of the ledger. Ledger, sheet, slip and call go by themselves, since a test brings each to another's.
 ghost use Rattle.std.specs.Prelude.{◌≡◌, IfOk, IfErr};
 ghost use Rattle.ledger_tests.specs.Slips.{Endable};
 

@@ -1,4 +1,4 @@
-// Stations of points that use the same.
+//! Stations of points that use the same.
 use crate::station::{GIVEN, ROW, two_points};
 use ledger::{Ledger, Point};
 use std::test::Fail;

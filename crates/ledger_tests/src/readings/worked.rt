@@ -1,4 +1,4 @@
-// Bookings worked out by hand, and what ledger and sheet then hold.
+//! Bookings worked out by hand, and what ledger and sheet then hold.
 ghost use Rattle.std.specs.Prelude.{◌≡◌, true};
 ghost use Rattle.ledger.specs.Tokens.{is_measured};
 
