@@ -6,9 +6,11 @@ use Rattle.refusals.specs.declared.Refusal.{Refusal}
 use Rattle.refusals.specs.declared.Refusal.TheVariants.{NotRunning}
 use Rattle.refusals.specs.declared.Refused.{Refused}
 use Rattle.ledger.specs.declared.book.Book.{Book}
+use Rattle.ledger.specs.declared.day.Phase.{Phase}
+use Rattle.ledger.specs.declared.day.Phase.TheVariants.{Idle, Open, Measured}
 use Rattle.ledger.specs.Days.{abandonment_fault}
 use Rattle.ledger.specs.Grounds.{first_ground, call_answer, token_answer, unless}
-use Rattle.ledger.specs.Tokens.{DayToken}
+use Rattle.ledger.specs.Tokens.{DayToken, OpenToken, MeasuredToken, is_idle, is_running}
 use Rattle.ledger.proofs.Grounds.{by_unless}
 use Rattle.ledger.proofs.HandedBack.{handed}
 use Rattle.scenario.specs.Days.{IsRunning, HandsBack}
@@ -46,6 +48,13 @@ accepted_day P f day x new old b r er eb h =
 -- the day that runs can be abandoned
 pub no_ground : (l : Book) (day : DayToken) → IsRunning l day → abandonment_fault l day ≡ None
 no_ground l day running = ap (λ (b : Bool). first_ground ((not b, NotRunning) ∷ [])) running
+
+-- the ledger is not between days
+pub not_idle : (p : Phase) (day : DayToken) → is_running p day ≡ true → is_idle p ≡ false
+not_idle Idle (OpenToken day) e = sym e
+not_idle Idle (MeasuredToken day) e = sym e
+not_idle (Open n w) day e = refl
+not_idle (Measured n w g x q) day e = refl
 
 -- a second ground is met, whether the first one is or not
 pub second_ground : {A : Type 0} (a b : Bool) (v w : Refusal) (o : Option Refusal) (x : A) → b ≡ false →
