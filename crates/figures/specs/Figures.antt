@@ -15,8 +15,8 @@ use Rattle.charges.specs.OfferedBalance.{offered_balance_of, offered_balance_cha
 use Rattle.calendar.specs.Days.{day_number}
 
 pub record Figures : Type 0 where
-  -- 100 litres among three equal weights: by the running rule the last gets the odd litre, by largest
-  -- remainder the first
+  -- 100 litres among three equal weights: by the running rule the last gets the odd litre, by
+  -- largest remainder the first
   pub equal_running : guarded_rule running_shares 100 (1 ∷ 1 ∷ 1 ∷ []) ≡ 33 ∷ 33 ∷ 34 ∷ []
   pub equal_largest : guarded_rule largest_remainder_shares 100 (1 ∷ 1 ∷ 1 ∷ []) ≡ 34 ∷ 33 ∷ 33 ∷ []
   -- 4 litres by weights 2 and 3
@@ -37,10 +37,11 @@ pub record Figures : Type 0 where
       guarded_rule largest_remainder_shares 600_000 (76_444 ∷ 38_222 ∷ []) ≡ 400_000 ∷ 200_000 ∷ []
   -- a day factor of 962,833 under a season number of 5,000,000
   pub season : scaled_factor 962_833 5_000_000 ≡ 481_416
-  -- a dial of 5 digits and 1,000 litres per unit that went from 99,990 over zero to 15, whatever the
-  -- point's other particulars
+  -- a dial of 5 digits and 1,000 litres per unit that went from 99,990 over zero to 15, whatever
+  -- the point's other particulars
   pub rolled_over : (g : Particulars) →
-      consumption_to (record g { digits = 5; litres_per_unit = 1_000; reading = 99_990 }) 15 ≡ 25_000
+      consumption_to (record g { digits = 5; litres_per_unit = 1_000; reading = 99_990 }) 15
+      ≡ 25_000
   -- 25,000 litres consumed where 30,000 were shared: the correction is -5,000 (negsuc 4,999)
   pub correction : correction_of 25_000 30_000 ≡ negsuc 4_999
   -- 25,000 litres consumed over a period sum of 764,445: the new scale factor, whatever the old one

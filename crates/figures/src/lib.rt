@@ -1,5 +1,5 @@
-//! The worked figures of docs/RULES.md, docs/CHARGES.md and docs/CALENDAR.md, of the definitions that
-//! the contracts cite.
+//! The worked figures of docs/RULES.md, docs/CHARGES.md and docs/CALENDAR.md, of the definitions
+//! that the contracts cite.
 #![tactic(auto)]
 
 ghost use Rattle.std.specs.Prelude.{◌≡◌};

@@ -10,14 +10,17 @@ use Rattle.ledger.proofs.AcceptedReadings.{reads}
 use Rattle.ledger.proofs.Grounds.{by_option}
 use Rattle.ledger_tests.specs.Slips.{IsEndable}
 
-pub reading_makes : (l : Book) (s : List Point) (k dial : ℕ) (r : Result Slip Refusal) (l' : Book) (s' : List Point) →
+pub reading_makes : (l : Book) (s : List Point) (k dial : ℕ) (r : Result Slip Refusal) (l' : Book)
+    (s' : List Point) →
     Became (reading_at l s k dial) r l' s' → IfOk r (λ slip. IsEndable l' slip)
 reading_makes l s k dial r l' s' became =
     let some : 0 < l.counts.readings + 1 = omega arith in
     subst (λ (b : Book). IfOk r (λ slip. IsEndable b slip)) (sym became.book)
-    (subst (λ (z : Result Slip Refusal). IfOk z (λ slip. IsEndable (reading_at l s k dial).book slip)) (sym became.answer)
+    (subst (λ (z : Result Slip Refusal). IfOk z (λ slip. IsEndable
+    (reading_at l s k dial).book slip)) (sym became.answer)
     (by_option
-    (λ fault. let o = call_outcome fault l s (accepted_reading l s k dial) in IfOk o.answer (λ slip. IsEndable o.book slip))
+    (λ fault. let o = call_outcome fault l s (accepted_reading l s k dial) in
+    IfOk o.answer (λ slip. IsEndable o.book slip))
     (reading_fault l s k dial)
     (λ none. (some, (reads l s k dial none).there.admitted))
     (λ _. tt)))

@@ -225,8 +225,8 @@ fn another_ledger_s_day(rt: HostRuntime) -> Result<(), Fail> {
     Ok(())
 }
 
-// The table serves two segments, and gives 0 until it is filled: a segment comes before weights, and
-// an open slip before both.
+// The table serves two segments, and gives 0 until it is filled: a segment comes before weights,
+// and an open slip before both.
 #[test]
 fn a_segment_not_served(rt: HostRuntime) -> Result<(), Fail> {
     let third = Point {

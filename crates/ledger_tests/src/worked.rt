@@ -180,8 +180,8 @@ fn a_point_joins_between_days(rt: HostRuntime) -> Result<(), Fail> {
     Ok(())
 }
 
-// A layer takes all of the first point's segment away outside winter; the day is of season 1, so the
-// second point gets all.
+// A layer takes all of the first point's segment away outside winter; the day is of season 1, so
+// the second point gets all.
 #[test]
 fn a_day_by_its_own_season(rt: HostRuntime) -> Result<(), Fail> {
     let second = Point {

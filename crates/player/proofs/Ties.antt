@@ -23,7 +23,8 @@ pub tied_after_acceptance : {A : Type 0} (f : Option Refusal) (x y : A) (new old
     is_tied new.phase (day x) ≡ true → is_tied after.phase (day y) ≡ true
 tied_after_acceptance None x y new old after day e book tied =
     let same : y ≡ x = cc in
-    ap (λ (b : Book). is_tied b.phase (day y)) book ∙ ap (λ v. is_tied new.phase (day v)) same ∙ tied
+    ap (λ (b : Book). is_tied b.phase (day y)) book ∙ ap (λ v. is_tied new.phase (day v)) same
+    ∙ tied
 tied_after_acceptance (Some w) x y new old after day e book tied = cc
 
 -- the same that was refused
@@ -42,7 +43,8 @@ pub tied_after_token_call : {A T : Type 0} (f : Option Refusal) (token : T) (x y
     is_tied new.phase (day x) ≡ true → is_tied after.phase (day y) ≡ true
 tied_after_token_call None token x y new old after day e book tied =
     let same : y ≡ x = cc in
-    ap (λ (b : Book). is_tied b.phase (day y)) book ∙ ap (λ v. is_tied new.phase (day v)) same ∙ tied
+    ap (λ (b : Book). is_tied b.phase (day y)) book ∙ ap (λ v. is_tied new.phase (day v)) same
+    ∙ tied
 tied_after_token_call (Some w) token x y new old after day e book tied = cc
 
 -- the same that handed its token back

@@ -35,4 +35,5 @@ returns-clause-figures c =
 
 pub returns-clause-day : goal.returns-clause-day
 unfolding days_before_month days_before_year
-returns-clause-day c = let r : c.number.result ≡ Ok 3_561 = c.number.ensures.value ∙ refl in search (rules, r)
+returns-clause-day c = let r : c.number.result ≡ Ok 3_561 = c.number.ensures.value ∙ refl in
+    search (rules, r)

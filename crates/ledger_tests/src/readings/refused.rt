@@ -25,8 +25,8 @@ fn past_the_points<const N: usize>(call: Call, rows: [Point; N]) -> Result<Outco
     Ok(outcome_of(call, &mut ledger, &mut sheet, &other, slip))
 }
 
-// The first point's row with its slip open; the same out of its ranges, of a trader not admitted, and
-// with another slip open.
+// The first point's row with its slip open; the same out of its ranges, of a trader not admitted,
+// and with another slip open.
 const OPEN: Point = Point {
     slip: 1,
     kept_reading: 15,

@@ -41,8 +41,8 @@ pub(crate) enum Call {
     Withdraw,
 }
 
-// Makes the call, and gives its correction, 0 of a withdrawal. A refusal hands the slip back; points
-// and running day stay.
+// Makes the call, and gives its correction, 0 of a withdrawal. A refusal hands the slip back;
+// points and running day stay.
 fn make(
     call: Call,
     ledger: &mut Ledger,

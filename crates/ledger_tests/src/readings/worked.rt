@@ -24,8 +24,8 @@ struct Booking {
     scale_factor: u32,
 }
 
-// The dial rolls over from 99,990 to 15: 25 units of 1,000 litres, 5,000 litres less than were shared
-// out.
+// The dial rolls over from 99,990 to 15: 25 units of 1,000 litres, 5,000 litres less than were
+// shared out.
 const ROLLED: Booking = Booking {
     row: Point {
         open_sum: 30_000,

@@ -17,24 +17,28 @@ record Leaves (l l' : Book) (given : Slip) (r : Result ℤ (Refused Slip)) : Typ
   points : l'.counts.points ≡ l.counts.points
   day : l'.phase ≡ l.phase
 
-booking_leaves : (l : Book) (s : List Point) (slip : Slip) (t : ℕ) (f : Option Refusal) (r : Result ℤ (Refused Slip)) (l' : Book) (s' : List Point) →
+booking_leaves : (l : Book) (s : List Point) (slip : Slip) (t : ℕ) (f : Option Refusal)
+    (r : Result ℤ (Refused Slip)) (l' : Book) (s' : List Point) →
     Became (token_outcome slip f l s (accepted_booking l s slip t)) r l' s' → Leaves l l' slip r
 booking_leaves l s slip t f r l' s' became =
     let new = (accepted_booking l s slip t).book in
     record {
       slip = same_token f slip _ r became.answer;
-      points = left (λ (b : Book). b.counts.points ≡ l.counts.points) f new l l' became.book refl refl;
+      points = left (λ (b : Book). b.counts.points ≡ l.counts.points) f new l l' became.book refl
+          refl;
       day = left (λ (b : Book). b.phase ≡ l.phase) f new l l' became.book refl refl;
     }
 
 pub returns-in-Book : goal.returns-in-Book
 returns-in-Book c =
-    let k = booking_leaves c.args.ledger.now.book c.args.sheet.now c.args.slip _ _ _ _ _ c.book.ensures.became in
+    let k = booking_leaves c.args.ledger.now.book c.args.sheet.now c.args.slip _ _ _ _ _
+    c.book.ensures.became in
     record { slip = k.slip; points = k.points; day = k.day }
 
 pub returns-in-HandOver : goal.returns-in-HandOver
 returns-in-HandOver c =
-    let k = booking_leaves c.args.ledger.now.book c.args.sheet.now c.args.slip c.in-HandOver.trader _ _ _ _ c.hand_over.ensures.became in
+    let k = booking_leaves c.args.ledger.now.book c.args.sheet.now c.args.slip c.in-HandOver.trader
+    _ _ _ _ c.hand_over.ensures.became in
     record { slip = k.slip; points = k.points; day = k.day }
 
 pub returns-in-Withdraw : goal.returns-in-Withdraw

@@ -14,5 +14,6 @@ returns c =
     let became = c.read.ensures.became in
     record {
       slip = reading_makes l s k dial _ _ _ became;
-      day = left (λ (b : Book). b.phase ≡ l.phase) (reading_fault l s k dial) (accepted_reading l s k dial).book l _ became.book refl refl;
+      day = left (λ (b : Book). b.phase ≡ l.phase) (reading_fault l s k dial)
+          (accepted_reading l s k dial).book l _ became.book refl refl;
     }

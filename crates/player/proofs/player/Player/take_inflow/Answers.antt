@@ -7,4 +7,5 @@ returns-in_err-print_call c =
     let became = c.take_inflow-answer.ensures.became (rows_of c.args.self.now.state) in search rules
 
 pub returns : goal.returns
-returns c = let became = c.take_inflow-answer.ensures.became (rows_of c.args.self.now.state) in search rules
+returns c = let became = c.take_inflow-answer.ensures.became (rows_of c.args.self.now.state) in
+    search rules

@@ -33,7 +33,8 @@ invariant_of-self-in-Idle c =
     (eq-eqb number number refl)
     in
     record {
-      tied = subst (λ (day : RunningDay). is_tied after.phase day ≡ true) (sym c.begin.ensures) tied;
+      tied = subst (λ (day : RunningDay). is_tied after.phase day ≡ true)
+          (sym c.begin.ensures) tied;
     }
 
 pub returns-in_ok-day-in-Idle : goal.returns-in_ok-day-in-Idle

@@ -37,7 +37,8 @@ invariant_of-self-in-Err c =
     in
     record {
       tied =
-          subst (λ (d : RunningDay). is_tied after.phase d ≡ true) (sym c.begin-in-Err.ensures) tied;
+          subst (λ (d : RunningDay). is_tied after.phase d ≡ true)
+          (sym c.begin-in-Err.ensures) tied;
     }
 
 pub returns-in-Ok : goal.returns-in-Ok
