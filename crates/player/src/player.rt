@@ -30,7 +30,7 @@ pub struct Player {
     heap: Global,
     state: State,
     profiles: Profiles,
-    // their names
+    // the traders' names
     traders: Vec<Vec<u8>>,
     // the inflow of the day that was measured last, in litres, 0 before the first
     measured: u64,
