@@ -1,21 +1,26 @@
 //! A trader's open quantity.
 use crate::seen::number_of;
 use crate::station::{SECOND, two_points};
-use ledger::Point;
+use ledger::{Ledger, Point};
 use std::test::Fail;
+
+// The number of the refusal, if any.
+fn fault(ledger: &Ledger, sheet: &[Point], trader: u32) -> Option<u8> {
+    number_of(ledger.open_quantity(sheet, trader))
+}
 
 #[test]
 fn open_quantities(rt: HostRuntime) -> Result<(), Fail> {
     let mut sheet = [Point::UNUSED; 3];
     let ledger = two_points(&mut sheet, SECOND)?;
     sheet[0].open_sum = 5_000_000_000_000;
-    assert!(rt; number_of(ledger.open_quantity(&[Point::UNUSED; 1], 0)) == Some(1));
-    assert!(rt; number_of(ledger.open_quantity(&sheet, 2)) == Some(3));
-    assert!(rt; number_of(ledger.open_quantity(&[Point::UNUSED; 1], 2)) == Some(1));
+    assert!(rt; fault(&ledger, &[Point::UNUSED; 1], 0) == Some(1));
+    assert!(rt; fault(&ledger, &sheet, 2) == Some(3));
+    assert!(rt; fault(&ledger, &[Point::UNUSED; 1], 2) == Some(1));
     assert!(rt; ledger.open_quantity(&sheet, 0) == Ok(5_000_000_000_000));
     sheet[0].open_sum = 5_000_000_000_001;
-    assert!(rt; number_of(ledger.open_quantity(&sheet, 0)) == Some(11));
-    assert!(rt; number_of(ledger.open_quantity(&sheet, 2)) == Some(3));
+    assert!(rt; fault(&ledger, &sheet, 0) == Some(11));
+    assert!(rt; fault(&ledger, &sheet, 2) == Some(3));
     assert!(rt; ledger.open_quantity(&sheet, 1) == Ok(0));
     Ok(())
 }
@@ -23,8 +28,8 @@ fn open_quantities(rt: HostRuntime) -> Result<(), Fail> {
 #[test]
 fn a_sheet_too_long(rt: HostRuntime) -> Result<(), Fail> {
     let ledger = two_points(&mut [Point::UNUSED; 2], SECOND)?;
-    assert!(rt; number_of(ledger.open_quantity(&[Point::UNUSED; 4097], 0)) == Some(1));
-    assert!(rt; number_of(ledger.open_quantity(&[Point::UNUSED; 4096], 0)) == None);
+    assert!(rt; fault(&ledger, &[Point::UNUSED; 4097], 0) == Some(1));
+    assert!(rt; fault(&ledger, &[Point::UNUSED; 4096], 0) == None);
     Ok(())
 }
 

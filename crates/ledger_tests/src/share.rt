@@ -1,8 +1,10 @@
 //! Share-outs that are refused.
+ghost use Rattle.std.specs.Prelude.{◌≡◌, IfSome};
+
 use crate::days::measured;
 use crate::seen::{Outcome, Seen};
 use crate::station::{ROW, SECOND, SHEET, two_points};
-use ledger::{Ledger, Point, Refused};
+use ledger::{Ledger, MeasuredDay, Point, Refused};
 use profiles::{EvenProfile, Profile, TableProfile};
 use scenario::{end, share_out};
 use shares::Running;
@@ -12,7 +14,29 @@ use std::test::Fail;
 // An inflow of which 980,000 litres are shared out.
 const INFLOW: u64 = 1_000_000;
 
-// How sharing out a day of this inflow is answered, of which 2 per cent are lost.
+// How sharing out a day is answered, and the day where it is handed back.
+fn answered<P: Profile>(
+    ledger: &mut Ledger,
+    day: MeasuredDay,
+    sheet: &mut [Point],
+    profile: &P,
+    uses: &mut [u64],
+    shares: &mut [u64],
+) -> (Outcome, Option<MeasuredDay>)
+    ensures { IfSome result.1
+        (λ back. (back ≡ day) × (ledger.new.book.phase ≡ ledger.old.book.phase)) }
+{
+    let before = Seen::of(ledger);
+    match share_out(ledger, day, sheet, profile, &Running, uses, shares) {
+        Ok(_) => (Outcome::new(None, before, ledger), None),
+        Err(Refused { why, given }) => {
+            let outcome = Outcome::new(Some(why.number()), before, ledger);
+            (outcome, Some(given))
+        }
+    }
+}
+
+// The same of a day of this ledger's of this inflow, of which 2 per cent are lost.
 fn sharing<P: Profile>(
     ledger: &mut Ledger,
     inflow: u64,
@@ -22,15 +46,11 @@ fn sharing<P: Profile>(
     shares: &mut [u64],
 ) -> Result<Outcome, Fail> {
     let day = measured(ledger, [0, 0], inflow, 20_000)?;
-    let before = Seen::of(ledger);
-    match share_out(ledger, day, sheet, profile, &Running, uses, shares) {
-        Ok(_) => Ok(Outcome::new(None, before, ledger)),
-        Err(Refused { why, given }) => {
-            let outcome = Outcome::new(Some(why.number()), before, ledger);
-            end(ledger, given);
-            Ok(outcome)
-        }
+    let (outcome, back) = answered(ledger, day, sheet, profile, uses, shares);
+    if let Some(day) = back {
+        end(ledger, day);
     }
+    Ok(outcome)
 }
 
 // The even profile of this factor.
@@ -192,28 +212,23 @@ fn another_day(rt: &impl Abort, sheet: [Point; 3]) -> Result<Option<u8>, Fail> {
     let mut other = two_points(&mut [Point::UNUSED; 3], SECOND)?;
     let profile = even(764_445)?;
     let day = measured(&mut other, [0, 0], 1_000_000, 20_000)?;
-    let before = Seen::of(&ledger);
     let mut rows = sheet;
     let mut uses = [7; 3];
     let mut shares = [8; 3];
-    let number = match share_out(
+    let (outcome, back) = answered(
         &mut ledger,
         day,
         &mut rows,
         &profile,
-        &Running,
         &mut uses,
         &mut shares,
-    ) {
-        Ok(_) => None,
-        Err(Refused { why, given }) => {
-            end(&mut other, given);
-            Some(why.number())
-        }
-    };
-    assert!(rt; Outcome::new(number, before, &ledger).unchanged && rows == sheet);
+    );
+    if let Some(day) = back {
+        end(&mut other, day);
+    }
+    assert!(rt; outcome.unchanged && rows == sheet);
     assert!(rt; uses == [7; 3] && shares == [8; 3]);
-    Ok(number)
+    Ok(outcome.number)
 }
 
 // A foreign row comes before a foreign day, and that before an open slip.

@@ -45,11 +45,30 @@ fn readings_refused(rt: HostRuntime) -> Result<(), Fail> {
     Ok(())
 }
 
-// Reads the first point and withdraws the reading.
-fn withdrawn(ledger: &mut Ledger, sheet: &mut [Point; 2]) -> Result<(), Fail> {
-    let slip = reading(ledger, sheet, 0, 15)?;
-    answer_of(Call::Withdraw, ledger, sheet, slip)?;
-    Ok(())
+// A reading that is withdrawn again: its slip, and the rows while it was open.
+#[derive(Clone, Copy)]
+struct Withdrawn {
+    number: u32,
+    point: usize,
+    open: [Point; 2],
+}
+
+impl Withdrawn {
+    fn new(
+        ledger: &mut Ledger,
+        sheet: &mut [Point; 2],
+        point: usize,
+        dial: u32,
+    ) -> Result<Withdrawn, Fail> {
+        let slip = reading(ledger, sheet, point, dial)?;
+        let made = Withdrawn {
+            number: slip.number(),
+            point: slip.point(),
+            open: *sheet,
+        };
+        answer_of(Call::Withdraw, ledger, sheet, slip)?;
+        Ok(made)
+    }
 }
 
 // A million readings are made and withdrawn; then there is no more. An open slip comes first.
@@ -59,7 +78,7 @@ fn no_reading_after_a_million(rt: HostRuntime) -> Result<(), Fail> {
     let before = Seen::of(&ledger);
     let mut sheet = [ROW, TWIN];
     for _ in 0..1_000_000u32 {
-        withdrawn(&mut ledger, &mut sheet)?;
+        Withdrawn::new(&mut ledger, &mut sheet, 0, 15)?;
     }
     assert!(rt; Seen::of(&ledger) == before.with_readings(1_000_000) && sheet == [ROW, TWIN]);
     assert!(rt; tried(&mut ledger, sheet, 0, 15).is(Some(28)));
@@ -74,21 +93,16 @@ fn a_reading_withdrawn(rt: HostRuntime) -> Result<(), Fail> {
     let mut ledger = twins()?;
     let before = Seen::of(&ledger);
     let mut sheet = [ROW, TWIN];
-    let slip = reading(&mut ledger, &mut sheet, 1, 15)?;
-    let kept = sheet;
-    let first = slip.number();
-    answer_of(Call::Withdraw, &mut ledger, &mut sheet, slip)?;
-    assert!(rt; first == 1 && Seen::of(&ledger) == before.with_readings(1) && sheet == [ROW, TWIN]);
+    let first = Withdrawn::new(&mut ledger, &mut sheet, 1, 15)?;
+    let after = Seen::of(&ledger);
+    assert!(rt; first.number == 1 && after == before.with_readings(1) && sheet == [ROW, TWIN]);
     let open = Point {
         slip: 1,
         kept_reading: 15,
         ..TWIN
     };
-    assert!(rt; kept == [ROW, open]);
-    let next = reading(&mut ledger, &mut sheet, 1, 16)?;
-    let second = next.number();
-    let point = next.point();
-    answer_of(Call::Withdraw, &mut ledger, &mut sheet, next)?;
-    assert!(rt; second == 2 && point == 1);
+    assert!(rt; first.open == [ROW, open]);
+    let second = Withdrawn::new(&mut ledger, &mut sheet, 1, 16)?;
+    assert!(rt; second.number == 2 && second.point == 1);
     Ok(())
 }

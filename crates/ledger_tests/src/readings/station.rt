@@ -1,6 +1,7 @@
 //! Stations of points that are alike.
-use crate::station::{GIVEN, ROW, two_points};
+use crate::station::{FIRST_DAY, GIVEN, ROW, two_points};
 use ledger::{Ledger, Point};
+use scenario::new_ledger;
 use std::test::Fail;
 
 // The second trader's point, like the first's.
@@ -13,7 +14,6 @@ pub(crate) fn twins() -> Result<Ledger, Fail> {
 
 // A ledger of one point more.
 pub(crate) fn three_points() -> Result<Ledger, Fail> {
-    let mut ledger = twins()?;
-    ledger.admit_point(&mut [ROW, TWIN, Point::UNUSED], GIVEN)?;
-    Ok(ledger)
+    let points = [GIVEN, TWIN.into(), GIVEN];
+    Ok(new_ledger(FIRST_DAY, 2, &points, &mut [Point::UNUSED; 3])?)
 }

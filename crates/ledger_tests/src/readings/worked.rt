@@ -1,4 +1,5 @@
 //! Bookings worked out by hand, and what ledger and sheet then hold.
+ghost use Rattle.std.specs.Prelude.{◌≡◌};
 ghost use Rattle.ledger.specs.Tokens.{MeasuredToken};
 ghost use Rattle.scenario.specs.Days.{IsRunning};
 
@@ -9,6 +10,7 @@ use crate::seen::Seen;
 use crate::station::ROW;
 use ledger::{Ledger, MeasuredDay, Point};
 use profiles::EvenProfile;
+use refusals::Refusal;
 use scenario::shared_out;
 use shares::Running;
 use std::test::Fail;
@@ -147,19 +149,24 @@ fn a_hand_over(rt: HostRuntime) -> Result<(), Fail> {
     Ok(())
 }
 
-// Hands the first point over to the second trader while a day is measured, then shares the day out.
+// Hands the first point over to the second trader.
+fn handed_over(ledger: &mut Ledger, sheet: &mut [Point]) -> Result<i64, Refusal>
+    ensures { ledger.new.book.phase ≡ ledger.old.book.phase }
+{
+    let slip = reading(ledger, sheet, 0, 15)?;
+    answer_of(Call::HandOver(1), ledger, sheet, slip)
+}
+
+// The same while a day is measured, which is then shared out.
 fn handed_over_within(
     ledger: &mut Ledger,
     day: MeasuredDay,
     sheet: &mut [Point],
     profile: &EvenProfile,
-) -> Result<i64, Fail>
+) -> Result<i64, Refusal>
     requires { IsRunning ledger.old.book (MeasuredToken day) }
 {
-    let correction = match reading(ledger, sheet, 0, 15) {
-        Ok(slip) => answer_of(Call::HandOver(1), ledger, sheet, slip),
-        Err(why) => Err(why),
-    };
+    let correction = handed_over(ledger, sheet);
     shared_out(
         ledger,
         day,
@@ -169,7 +176,7 @@ fn handed_over_within(
         &mut [0; 2],
         &mut [0; 2],
     )?;
-    Ok(correction?)
+    correction
 }
 
 // A day of 980,000 litres was measured before the hand-over. The correction is the first trader's,
