@@ -1,5 +1,6 @@
 //! Whole gas days of the proved ledger, for a C or Rust program to time: tools/bench builds this
-//! library, links it to rust/src/bin/bench.rs, where the days are told in words, and runs both sides.
+//! library, links it to rust/src/bin/bench.rs, where the days are told in words, and runs both
+//! sides.
 #![tactic(auto)]
 
 ghost use Rattle.std.specs.Prelude.{◌*◌, ◌≤◌};

@@ -2,8 +2,6 @@
 -- two differ by more than one.
 use Rattle.std.proofs.Common.{◌≡◌, ℕ, zero, suc, ◌+◌, ◌-◌, ◌*◌, ◌/◌, ◌<◌, ◌≤◌, true, false, cond, leb, Ok, Err, sym, ap, ◌∙◌, le_trans, div-lt_iff_lt-mul, add-mul, mul-le-mul_left, mul-zero, le-div_iff_mul-le, mul-suc, div-mul-le_self, mul-div_cancel, arith}
 use native.Mathlib.Nat.{lt-div-mul-add, zero-div}
-use Rattle.std.specs.Prelude.{sum_by, map}
-use Rattle.std.specs.List.{range_with_len}
 use Rattle.std.specs.Result.{result_unwrap_or}
 use Rattle.std.proofs.lemmas.Bool.{le-leb}
 use Rattle.std.proofs.lemmas.List.FromFn.{sum_by-map-range_with_len_more}

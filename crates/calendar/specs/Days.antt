@@ -1,5 +1,5 @@
 -- The days of the years 2000 to 2099, by counting: day 0 is 1 January 2000.
-use Rattle.std.specs.Prelude.{◌≡◌, ℕ, zero, suc, ◌+◌, ◌-◌, ◌%◌, ◌<◌, ◌≤◌, Bool, true, false, if◌then◌else◌, ◌&&◌, [], ◌∷◌, Ok, Err, Result, MatchResult, ◌==◌, nat_le, slice_index}
+use Rattle.std.specs.Prelude.{◌≡◌, ℕ, zero, suc, ◌+◌, ◌-◌, ◌%◌, ◌<◌, ◌≤◌, Bool, if◌then◌else◌, ◌&&◌, [], ◌∷◌, Ok, Err, Result, MatchResult, ◌==◌, nat_le, slice_index}
 use Rattle.refusals.specs.declared.Refusal.{Refusal}
 use Rattle.refusals.specs.declared.Refusal.TheVariants.{NoSuchDay}
 use Rattle.calendar.specs.declared.date.Date.{Date}

@@ -1,4 +1,5 @@
-// The worked figures of the rules, established of the definitions that the contracts use.
+//! The worked figures of docs/RULES.md, docs/CHARGES.md and docs/CALENDAR.md, of the definitions
+//! that the contracts cite.
 #![tactic(auto)]
 
 ghost use Rattle.std.specs.Prelude.{◌≡◌};
@@ -6,8 +7,7 @@ ghost use Rattle.figures.specs.Figures.{Figures};
 
 use calendar::date::Date;
 
-// The number of the worked gas year's first day. The contract has the whole table of figures, so that the check asks for the proof of
-// each of them; the code works this one out.
+/// The day number of the worked gas year's first day. Its contract has the whole table of figures.
 pub fn figures_hold() -> u32
     ensures figures { Figures }
     ensures day { result ≡ 3_561 }

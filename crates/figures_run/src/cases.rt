@@ -1,4 +1,4 @@
-// What both share rules give for drawn quantities and weights, and for some small ones.
+//! What both share rules give for drawn quantities and weights, and for some small ones.
 use crate::page::Page;
 use shares::{LargestRemainder, Running, ShareRule};
 use std::alloc::{AllocError, Global};

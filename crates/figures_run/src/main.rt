@@ -1,7 +1,6 @@
-// figures_run SHEET: prints figures by the proved crates, to be held against what another program prints.
-//
-// SHEET is a table profile's sheet. In order: what the table tells, what a season layer over it tells, shares by both
-// rules, and a worked day by both rules.
+//! figures_run SHEET: prints figures by the proved crates, to be held against what another program
+//! prints. SHEET is a table profile's sheet. In order: what the table tells, what a season layer
+//! over it tells, shares by both rules, and a worked day by both rules.
 #![tactic(auto)]
 
 mod cases;

@@ -1,4 +1,4 @@
-// The text that is printed: lines of words and numbers, with a single space between them.
+//! The text that is printed: lines of words and numbers, with a single space between them.
 use std::alloc::Global;
 use std::fmt;
 use std::fmt::Write;

@@ -1,4 +1,4 @@
-// What the table profile, and a season layer over it, tell.
+//! What the table profile, and a season layer over it, tell.
 use crate::page::Page;
 use profiles::{Profile, SeasonLayer, TableProfile, Weather};
 use std::alloc::{AllocError, Global};

@@ -77,4 +77,5 @@ pub two_number_call-kind_call :
     two_number_call own limit more f ws ≡ kind_call own ws →
     two_number_call k limit more f ws ≡ kind_call k ws
 two_number_call-kind_call k own limit more f ws is at_own =
-    subst (λ (kind : Kind). two_number_call kind limit more f ws ≡ kind_call kind ws) (sym is) at_own
+    subst (λ (kind : Kind). two_number_call kind limit more f ws ≡ kind_call kind ws)
+    (sym is) at_own

@@ -4,5 +4,5 @@ use Rattle.ledger.specs.declared.book.Book.{Book}
 use Rattle.ledger.specs.declared.slip.Slip.{Slip}
 
 -- a slip of a point of this ledger's
-abbrev pub Endable : Book → Slip → Type 0
-Endable l s = (0 < s.number) × (s.point < l.counts.points)
+abbrev pub IsEndable : Book → Slip → Type 0
+IsEndable l s = (0 < s.number) × (s.point < l.counts.points)

@@ -1,9 +1,10 @@
-// Admitting traders and points.
+//! Admitting traders and points.
 use crate::seen::{Outcome, Seen, number_of};
 use crate::station::{GIVEN, ROW, SECOND, SHEET, two_points, two_traders};
 use ledger::{Ledger, Particulars, Point};
 use std::test::Fail;
 
+// How a point's admission is answered.
 fn admission(ledger: &mut Ledger, sheet: &mut [Point], given: Particulars) -> Outcome {
     let before = Seen::of(ledger);
     let number = number_of(ledger.admit_point(sheet, given));
@@ -125,7 +126,7 @@ fn a_third_trader_and_a_third_place(rt: HostRuntime) -> Result<(), Fail> {
     Ok(())
 }
 
-// Two grounds at once: the lower number is told.
+// Two grounds at once: the lower number is returned.
 #[test]
 fn the_first_ground_of_an_admission(rt: HostRuntime) -> Result<(), Fail> {
     let mut sheet = [Point::UNUSED; 2];

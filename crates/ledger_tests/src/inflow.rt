@@ -1,28 +1,31 @@
-// Taking the inflow of an open day.
+//! Taking the inflow of an open day.
 ghost use Rattle.std.specs.Prelude.{◌≡◌, IfSome};
 
-use crate::days::{end_measured, end_open, entry, opened, taking};
+use crate::days::{entry, opened};
 use crate::seen::{Outcome, Seen};
 use crate::station::two_traders;
 use ledger::{Ledger, OpenDay, Refused};
+use scenario::{end, take_inflow};
 use std::test::Fail;
 
 // An inflow after so much was metered, and the number of its refusal, if any.
-struct Inflow {
+struct Case {
     metered: u64,
     litres: u64,
     rate: u32,
     number: Option<u8>,
 }
 
-// Takes an inflow by a day, and ends the day once it is measured. A day that is refused is handed back.
+// How taking an inflow by a day is answered. A measured day ends; a day that is handed back is
+// returned.
 fn tried(ledger: &mut Ledger, day: OpenDay, litres: u64, rate: u32) -> (Outcome, Option<OpenDay>)
-    ensures { IfSome result.1 (λ back. (back ≡ day) × (ledger.new.book.phase ≡ ledger.old.book.phase)) }
+    ensures { IfSome result.1
+        (λ back. (back ≡ day) × (ledger.new.book.phase ≡ ledger.old.book.phase)) }
 {
     let before = Seen::of(ledger);
-    match taking(ledger, day, litres, rate) {
+    match take_inflow(ledger, day, litres, rate) {
         Ok(measured) => {
-            end_measured(ledger, measured);
+            end(ledger, measured);
             (Outcome::new(None, before, ledger), None)
         }
         Err(Refused { why, given }) => {
@@ -32,19 +35,19 @@ fn tried(ledger: &mut Ledger, day: OpenDay, litres: u64, rate: u32) -> (Outcome,
     }
 }
 
-// Takes an inflow by a day of the ledger's.
-fn taken(ledger: &mut Ledger, case: &Inflow) -> Result<Outcome, Fail> {
+// The same by a day of this ledger's.
+fn by_own(ledger: &mut Ledger, case: &Case) -> Result<Outcome, Fail> {
     let day = opened(ledger)?;
     let _ = entry(ledger, &day, 0, case.metered);
     let (outcome, back) = tried(ledger, day, case.litres, case.rate);
     if let Some(day) = back {
-        end_open(ledger, day);
+        end(ledger, day);
     }
     Ok(outcome)
 }
 
-// Takes an inflow by another ledger's day.
-fn by_another(
+// The same by another ledger's day.
+fn by_theirs(
     ledger: &mut Ledger,
     other: &mut Ledger,
     litres: u64,
@@ -53,68 +56,69 @@ fn by_another(
     let day = opened(other)?;
     let (outcome, back) = tried(ledger, day, litres, rate);
     if let Some(day) = back {
-        end_open(other, day);
+        end(other, day);
     }
     Ok(outcome)
 }
 
-// The loss is rounded down: 2 per cent of 387,755 are 7,755, and of 49 nothing. The last meets two grounds, and the first is told.
-static INFLOWS: [Inflow; 10] = [
-    Inflow {
+// The loss is rounded down: 2 per cent of 387,755 are 7,755, and of 49 nothing. The last meets two
+// grounds, and the first is returned.
+static INFLOWS: [Case; 10] = [
+    Case {
         metered: 0,
         litres: 1_000_000_001,
         rate: 0,
         number: Some(6),
     },
-    Inflow {
+    Case {
         metered: 0,
         litres: 1_000_000,
         rate: 1_000_001,
         number: Some(6),
     },
-    Inflow {
+    Case {
         metered: 0,
         litres: 1_000_000_000,
         rate: 1_000_000,
         number: None,
     },
-    Inflow {
+    Case {
         metered: 380_000,
         litres: 379_999,
         rate: 0,
         number: Some(25),
     },
-    Inflow {
+    Case {
         metered: 380_000,
         litres: 387_754,
         rate: 20_000,
         number: Some(25),
     },
-    Inflow {
+    Case {
         metered: 380_000,
         litres: 387_755,
         rate: 20_000,
         number: None,
     },
-    Inflow {
+    Case {
         metered: 49,
         litres: 49,
         rate: 20_000,
         number: None,
     },
-    Inflow {
+    Case {
         metered: 49,
         litres: 50,
         rate: 20_000,
         number: None,
     },
-    Inflow {
+    Case {
         metered: 50,
         litres: 50,
         rate: 20_000,
         number: Some(25),
     },
-    Inflow {
+    Case {
         metered: 380_000,
         litres: 1_000,
         rate: 1_000_001,
@@ -126,7 +130,7 @@ static INFLOWS: [Inflow; 10] = [
 fn inflows_refused(rt: HostRuntime) -> Result<(), Fail> {
     let mut ledger = two_traders()?;
     for case in &INFLOWS {
-        assert!(rt; taken(&mut ledger, case)?.is(case.number));
+        assert!(rt; by_own(&mut ledger, case)?.is(case.number));
     }
     Ok(())
 }
@@ -135,7 +139,7 @@ fn inflows_refused(rt: HostRuntime) -> Result<(), Fail> {
 fn inflows_by_another_ledger_s_day(rt: HostRuntime) -> Result<(), Fail> {
     let mut ledger = two_traders()?;
     let mut other = two_traders()?;
-    assert!(rt; by_another(&mut ledger, &mut other, 1_000_000, 0)?.refused(20));
-    assert!(rt; by_another(&mut ledger, &mut other, 1_000_000, 1_000_001)?.refused(6));
+    assert!(rt; by_theirs(&mut ledger, &mut other, 1_000_000, 0)?.refused(20));
+    assert!(rt; by_theirs(&mut ledger, &mut other, 1_000_000, 1_000_001)?.refused(6));
     Ok(())
 }

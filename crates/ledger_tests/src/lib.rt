@@ -1,5 +1,5 @@
-// Tests of the ledger's calls: each refusal once, with ledger and sheets seen before and after, and days and bookings worked out by
-// hand.
+//! Tests of the ledger's calls: each refusal once, with ledger and sheets seen before and after,
+//! and days and bookings worked out by hand.
 #![tactic(auto)]
 
 #[cfg(test)]

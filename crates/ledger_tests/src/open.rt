@@ -1,41 +1,44 @@
-// Opening days.
-ghost use Rattle.std.specs.Prelude.{◌≡◌, true};
-ghost use Rattle.ledger.specs.Tokens.{is_open};
+//! Opening days.
+ghost use Rattle.std.specs.Prelude.{◌≡◌};
+ghost use Rattle.ledger.specs.Tokens.{OpenToken};
+ghost use Rattle.scenario.specs.Days.{IsRunning};
 
-use crate::days::{end_open, measured, opened, shared_out};
+use crate::days::{WEATHER, opened};
 use crate::seen::{Outcome, Seen};
 use crate::station::two_traders;
 use ledger::{Ledger, OpenDay, Point};
 use profiles::{EvenProfile, Weather};
+use scenario::{DayInputs, end, open, run_day};
 use shares::Running;
 use std::test::Fail;
 
-// Tries to open a day, and ends the day where there is one.
+// How an opening is answered. The day ends where there is one.
 fn opening(ledger: &mut Ledger, temperature: i16, season: u8) -> Outcome {
     let before = Seen::of(ledger);
-    match ledger.open(Weather {
+    let weather = Weather {
         temperature,
         season,
-    }) {
+    };
+    match open(ledger, weather) {
         Ok(day) => {
-            end_open(ledger, day);
+            end(ledger, day);
             Outcome::new(None, before, ledger)
         }
         Err(why) => Outcome::new(Some(why.number()), before, ledger),
     }
 }
 
-// Tries to open a day beside one that is running.
+// The same beside a day that is running.
 fn opening_beside(ledger: &mut Ledger, day: &OpenDay, temperature: i16) -> Outcome
-    requires { is_open ledger.old.book.phase day.now.number ≡ true }
-    ensures { is_open ledger.new.book.phase day.now.number ≡ true }
+    requires { IsRunning ledger.old.book (OpenToken day.now) }
+    ensures { IsRunning ledger.new.book (OpenToken day.now) }
 {
     let before = Seen::of(ledger);
     let weather = Weather {
         temperature,
         season: 1,
     };
-    let why = ledger.open(weather).unwrap_err();
+    let why = open(ledger, weather).unwrap_err();
     Outcome::new(Some(why.number()), before, ledger)
 }
 
@@ -50,7 +53,7 @@ fn weather_past_its_ends(rt: HostRuntime) -> Result<(), Fail> {
     Ok(())
 }
 
-// A second day beside an open one; bad weather is told first.
+// A second day beside an open one; bad weather is returned first.
 #[test]
 fn one_day_at_a_time(rt: HostRuntime) -> Result<(), Fail> {
     let mut ledger = two_traders()?;
@@ -58,16 +61,16 @@ fn one_day_at_a_time(rt: HostRuntime) -> Result<(), Fail> {
     let number = day.number();
     let second = opening_beside(&mut ledger, &day, 105);
     let cold = opening_beside(&mut ledger, &day, -401);
-    end_open(&mut ledger, day);
+    end(&mut ledger, day);
     assert!(rt; number == 1 && second.refused(22) && cold.refused(5));
     let next = opened(&mut ledger)?;
     let number = next.number();
-    end_open(&mut ledger, next);
+    end(&mut ledger, next);
     assert!(rt; number == 2);
     Ok(())
 }
 
-// 31 December 2099 is the last day; bad weather is told first.
+// 31 December 2099 is the last day; bad weather is returned first.
 #[test]
 fn no_day_past_the_calendar(rt: HostRuntime) {
     let mut ledger = Ledger::new(36_525);
@@ -78,12 +81,16 @@ fn no_day_past_the_calendar(rt: HostRuntime) {
 
 // Shares out a day without points.
 fn empty_day(ledger: &mut Ledger, profile: &EvenProfile) -> Result<(), Fail> {
-    let day = measured(ledger, [0, 0], 0, 0)?;
-    let mut none = [Point::UNUSED; 1];
-    shared_out(
+    let inputs = DayInputs {
+        weather: WEATHER,
+        entries: &[],
+        inflow: 0,
+        rate: 0,
+    };
+    run_day(
         ledger,
-        day,
-        &mut none,
+        &inputs,
+        &mut [Point::UNUSED; 1],
         profile,
         &Running,
         &mut [0; 1],
@@ -109,7 +116,7 @@ fn no_day_after_a_million_openings(rt: HostRuntime) -> Result<(), Fail> {
     let mut ledger = Ledger::new(0);
     for _ in 0..1_000_000u32 {
         let day = opened(&mut ledger)?;
-        end_open(&mut ledger, day);
+        end(&mut ledger, day);
     }
     assert!(rt; ledger.counts().opened == 1_000_000 && ledger.next_day() == 0);
     assert!(rt; opening(&mut ledger, 105, 1).refused(23));

@@ -1,4 +1,4 @@
-// A trader's open quantity.
+//! A trader's open quantity.
 use crate::seen::number_of;
 use crate::station::{SECOND, two_points};
 use ledger::Point;
@@ -28,7 +28,7 @@ fn a_sheet_too_long(rt: HostRuntime) -> Result<(), Fail> {
     Ok(())
 }
 
-// A trader's account and metered sum are told only of a trader who is there.
+// A trader's account and metered sum are given only of a trader who is there.
 #[test]
 fn no_such_trader(rt: HostRuntime) -> Result<(), Fail> {
     let ledger = two_points(&mut [Point::UNUSED; 2], SECOND)?;

@@ -1,4 +1,5 @@
-// Readings: each refusal once, with ledger and sheet seen before and after, and bookings worked out by hand.
+//! Readings: each refusal once, with ledger and sheet seen before and after, and bookings worked
+//! out by hand.
 mod foreign;
 mod read;
 mod refused;

@@ -1,8 +1,8 @@
-// What a test sees of a ledger before and after a call.
+//! What a test sees of a ledger before and after a call.
 use ledger::{Counts, Ledger};
 use refusals::Refusal;
 
-// Everything that a ledger tells of itself, of its traders the first two.
+// All that a ledger gives out, of its traders the first two.
 #[derive(Clone, Copy, PartialEq)]
 pub(crate) struct Seen {
     pub(crate) counts: Counts,
@@ -64,8 +64,8 @@ impl Seen {
     }
 }
 
-// How a call was answered: the number of its refusal, which is what the rules give, if it was refused, and whether the ledger stayed
-// as it was.
+// How a call was answered: the number of its refusal, if it was refused, and whether the ledger
+// stayed as it was.
 #[derive(Clone, Copy)]
 pub(crate) struct Outcome {
     pub(crate) number: Option<u8>,
@@ -80,7 +80,7 @@ impl Outcome {
         }
     }
 
-    // The same of a call that may also change a sheet: whether it stayed as it was, too.
+    // The same where a sheet had to stay as it was, too.
     pub(crate) fn with_sheet(self, stayed: bool) -> Outcome {
         Outcome {
             unchanged: self.unchanged && stayed,
@@ -92,18 +92,18 @@ impl Outcome {
         self.number.is_none()
     }
 
-    // As a refusal of that number has to be: the ledger stayed as it was.
+    // Whether this number refused the call, and the ledger stayed as it was.
     pub(crate) fn refused(self, number: u8) -> bool {
         self.number == Some(number) && self.unchanged
     }
 
-    // Whether the call was refused by this number, or accepted where there is none.
+    // The same, or, where there is no number, whether the call was accepted.
     pub(crate) fn is(self, number: Option<u8>) -> bool {
         self.number == number && (self.accepted() || self.unchanged)
     }
 }
 
-// The number of the refusal, if it is one.
+// The number of the refusal, if the answer is one.
 pub(crate) fn number_of<T: Drop>(answer: Result<T, Refusal>) -> Option<u8> {
     answer.err().map(Refusal::number)
 }

@@ -1,9 +1,10 @@
-// Share-outs that are refused.
-use crate::days::{end_measured, measured, sharing_out};
+//! Share-outs that are refused.
+use crate::days::measured;
 use crate::seen::{Outcome, Seen};
 use crate::station::{ROW, SECOND, SHEET, two_points};
 use ledger::{Ledger, Point, Refused};
 use profiles::{EvenProfile, Profile, TableProfile};
+use scenario::{end, share_out};
 use shares::Running;
 use std::process::Abort;
 use std::test::Fail;
@@ -11,7 +12,7 @@ use std::test::Fail;
 // An inflow of which 980,000 litres are shared out.
 const INFLOW: u64 = 1_000_000;
 
-// Tries to share out a day of this inflow, of which 2 per cent are lost.
+// How sharing out a day of this inflow is answered, of which 2 per cent are lost.
 fn sharing<P: Profile>(
     ledger: &mut Ledger,
     inflow: u64,
@@ -22,21 +23,23 @@ fn sharing<P: Profile>(
 ) -> Result<Outcome, Fail> {
     let day = measured(ledger, [0, 0], inflow, 20_000)?;
     let before = Seen::of(ledger);
-    match sharing_out(ledger, day, sheet, profile, &Running, uses, shares) {
+    match share_out(ledger, day, sheet, profile, &Running, uses, shares) {
         Ok(_) => Ok(Outcome::new(None, before, ledger)),
         Err(Refused { why, given }) => {
             let outcome = Outcome::new(Some(why.number()), before, ledger);
-            end_measured(ledger, given);
+            end(ledger, given);
             Ok(outcome)
         }
     }
 }
 
+// The even profile of this factor.
 fn even(factor: u32) -> Result<EvenProfile, Fail> {
     Ok(EvenProfile::new(factor)?)
 }
 
-// The number of the refusal, if any, where the station of two points is handed these sheets. A refusal has to leave them.
+// The number of the refusal, if any, where the station of two points is handed these sheets. A
+// refusal has to leave them.
 fn tried<P: Profile, const N: usize, const U: usize, const S: usize>(
     rt: &impl Abort,
     sheet: [Point; N],
@@ -61,7 +64,7 @@ fn tried<P: Profile, const N: usize, const U: usize, const S: usize>(
     Ok(outcome.number)
 }
 
-// A sheet too short or too long, told before a work sheet.
+// A sheet too short or too long comes before a work sheet.
 #[test]
 fn point_sheets_of_a_wrong_length(rt: HostRuntime) -> Result<(), Fail> {
     let profile = even(764_445)?;
@@ -72,7 +75,7 @@ fn point_sheets_of_a_wrong_length(rt: HostRuntime) -> Result<(), Fail> {
     Ok(())
 }
 
-// A work sheet without a place for each point, told before a row of another ledger.
+// A work sheet without a place for each point comes before a row of another ledger.
 #[test]
 fn work_sheets_too_short(rt: HostRuntime) -> Result<(), Fail> {
     let profile = even(764_445)?;
@@ -138,7 +141,7 @@ static FOREIGNERS: [Point; 12] = [
     },
 ];
 
-// What a share-out says where the second row is this one.
+// How a share-out is answered where the second row is this one.
 fn beside(rt: &impl Abort, row: Point) -> Result<Option<u8>, Fail> {
     let profile = even(764_445)?;
     tried(rt, [ROW, row, Point::UNUSED], [7; 3], [8; 3], &profile)
@@ -152,7 +155,7 @@ fn rows_of_another_ledger(rt: HostRuntime) -> Result<(), Fail> {
     Ok(())
 }
 
-// An open slip is told after a row of another ledger; sums at their ends have room for one more day.
+// An open slip comes after a row of another ledger; sums at their ends have room for one more day.
 #[test]
 fn slips_and_full_sums(rt: HostRuntime) -> Result<(), Fail> {
     let full = Point {
@@ -182,7 +185,8 @@ fn a_place_not_used(rt: HostRuntime) -> Result<(), Fail> {
     Ok(())
 }
 
-// The number of the refusal where a ledger between days shares out another ledger's day. It has to leave all sheets.
+// The number of the refusal where a ledger between days shares out another ledger's day. It has to
+// leave all sheets.
 fn another_day(rt: &impl Abort, sheet: [Point; 3]) -> Result<Option<u8>, Fail> {
     let mut ledger = two_points(&mut [Point::UNUSED; 3], SECOND)?;
     let mut other = two_points(&mut [Point::UNUSED; 3], SECOND)?;
@@ -192,7 +196,7 @@ fn another_day(rt: &impl Abort, sheet: [Point; 3]) -> Result<Option<u8>, Fail> {
     let mut rows = sheet;
     let mut uses = [7; 3];
     let mut shares = [8; 3];
-    let number = match sharing_out(
+    let number = match share_out(
         &mut ledger,
         day,
         &mut rows,
@@ -203,7 +207,7 @@ fn another_day(rt: &impl Abort, sheet: [Point; 3]) -> Result<Option<u8>, Fail> {
     ) {
         Ok(_) => None,
         Err(Refused { why, given }) => {
-            end_measured(&mut other, given);
+            end(&mut other, given);
             Some(why.number())
         }
     };
@@ -212,7 +216,7 @@ fn another_day(rt: &impl Abort, sheet: [Point; 3]) -> Result<Option<u8>, Fail> {
     Ok(number)
 }
 
-// A foreign row is told before a foreign day, and that before an open slip.
+// A foreign row comes before a foreign day, and that before an open slip.
 #[test]
 fn another_ledger_s_day(rt: HostRuntime) -> Result<(), Fail> {
     assert!(rt; another_day(&rt, SHEET)? == Some(20));
@@ -221,7 +225,8 @@ fn another_ledger_s_day(rt: HostRuntime) -> Result<(), Fail> {
     Ok(())
 }
 
-// The table serves two segments, and tells 0 until it is filled: a segment is told before weights, and an open slip before both.
+// The table serves two segments, and gives 0 until it is filled: a segment comes before weights,
+// and an open slip before both.
 #[test]
 fn a_segment_not_served(rt: HostRuntime) -> Result<(), Fail> {
     let third = Point {
@@ -242,7 +247,7 @@ fn a_segment_not_served(rt: HostRuntime) -> Result<(), Fail> {
     Ok(())
 }
 
-// The one refusal that leaves a trace: noughts in the first work sheet.
+// The one refusal that leaves a trace: zeros in the first work sheet.
 #[test]
 fn nothing_to_share_by(rt: HostRuntime) -> Result<(), Fail> {
     let mut sheet = [Point::UNUSED; 3];

@@ -1,5 +1,6 @@
-// A station of two traders with a point each.
+//! A station of two traders with a point each.
 use ledger::{Ledger, Particulars, Point};
+use scenario::new_ledger;
 use std::test::Fail;
 
 pub(crate) const FIRST_DAY: u32 = 3561;
@@ -30,7 +31,7 @@ pub(crate) const ROW: Point = Point {
     kept_reading: 0,
 };
 
-// The second trader's point uses half as much.
+// The second trader's point has half the scale factor.
 pub(crate) const SECOND: Point = Point {
     trader: 1,
     scale_factor: 500_000,
@@ -41,16 +42,10 @@ pub(crate) const SHEET: [Point; PLACES] = [ROW, SECOND, Point::UNUSED];
 
 // A ledger of two traders.
 pub(crate) fn two_traders() -> Result<Ledger, Fail> {
-    let mut ledger = Ledger::new(FIRST_DAY);
-    ledger.admit_trader()?;
-    ledger.admit_trader()?;
-    Ok(ledger)
+    Ok(new_ledger(FIRST_DAY, 2, &[], &mut [])?)
 }
 
 // A ledger of two traders, and their points in a sheet, of which the second is to have this row.
 pub(crate) fn two_points(sheet: &mut [Point], second: Point) -> Result<Ledger, Fail> {
-    let mut ledger = two_traders()?;
-    ledger.admit_point(sheet, GIVEN)?;
-    ledger.admit_point(sheet, second.into())?;
-    Ok(ledger)
+    Ok(new_ledger(FIRST_DAY, 2, &[GIVEN, second.into()], sheet)?)
 }

@@ -1,13 +1,15 @@
-// Days worked out by hand, and what every account and sheet then holds.
-use crate::days::{end_measured, measured, shared_out};
+//! Days worked out by hand, and what every account and sheet then holds.
+use crate::days::{WEATHER, measured};
 use crate::seen::Seen;
 use crate::station::{GIVEN, ROW, SECOND, two_points};
 use ledger::{Ledger, Particulars, Point, SharedOut};
 use profiles::{EvenProfile, SeasonLayer};
+use refusals::Refusal;
+use scenario::{DayInputs, Entry, end, run_day};
 use shares::{LargestRemainder, Running, ShareRule};
 use std::test::Fail;
 
-// The ledger's work sheets: three places, of which two are used at first.
+// The day's work sheets: three places, of which two are used at first.
 #[derive(Clone, Copy)]
 struct Work {
     uses: [u64; 3],
@@ -19,20 +21,43 @@ const WORK: Work = Work {
     shares: [8; 3],
 };
 
-// Shares out a day at a day factor of 764,445.
-fn share<R: ShareRule>(
+// The worked day: 1,000,000 litres of inflow, of which 20,000 are lost and 380,000 metered.
+const WORKED: DayInputs<'static> = DayInputs {
+    weather: WEATHER,
+    entries: &[
+        Entry {
+            trader: 0,
+            litres: 300_000,
+        },
+        Entry {
+            trader: 1,
+            litres: 80_000,
+        },
+    ],
+    inflow: 1_000_000,
+    rate: 20_000,
+};
+
+// A day of the same inflow, and nothing lost or metered.
+const PLAIN: DayInputs<'static> = DayInputs {
+    weather: WEATHER,
+    entries: &[],
+    inflow: 1_000_000,
+    rate: 0,
+};
+
+// Runs a day at a day factor of 764,445.
+fn run<R: ShareRule>(
     ledger: &mut Ledger,
+    inputs: &DayInputs,
     rule: &R,
-    metered: [u64; 2],
-    rate: u32,
     sheet: &mut [Point],
     work: &mut Work,
-) -> Result<SharedOut, Fail> {
+) -> Result<SharedOut, Refusal> {
     let profile = EvenProfile::new(764_445)?;
-    let day = measured(ledger, metered, 1_000_000, rate)?;
-    shared_out(
+    run_day(
         ledger,
-        day,
+        inputs,
         sheet,
         &profile,
         rule,
@@ -41,13 +66,14 @@ fn share<R: ShareRule>(
     )
 }
 
-// What the worked day tells: 1,000,000 litres of inflow, of which 20,000 are lost and 380,000 metered.
-const TOLD: SharedOut = SharedOut {
+// What the worked day's share-out returns.
+const RETURNED: SharedOut = SharedOut {
     quantity: 600_000,
     total: 114_666,
     loss: 20_000,
 };
 
+// Whether a ledger holds what the worked day brings.
 fn is_worked(ledger: &Ledger) -> bool {
     let seen = Seen::of(ledger);
     seen.account == [Ok(700_000), Ok(280_000)]
@@ -80,15 +106,8 @@ fn the_worked_day(rt: HostRuntime) -> Result<(), Fail> {
     let mut sheet = [Point::UNUSED; 3];
     let mut ledger = two_points(&mut sheet, SECOND)?;
     let mut work = WORK;
-    let told = share(
-        &mut ledger,
-        &Running,
-        [300_000, 80_000],
-        20_000,
-        &mut sheet,
-        &mut work,
-    )?;
-    assert!(rt; told == TOLD && sheet == SHARED && is_worked(&ledger));
+    let returned = run(&mut ledger, &WORKED, &Running, &mut sheet, &mut work)?;
+    assert!(rt; returned == RETURNED && sheet == SHARED && is_worked(&ledger));
     assert!(rt; work.uses == [76_444, 38_222, 7] && work.shares == [400_000, 200_000, 8]);
     assert!(rt; ledger.open_quantity(&sheet, 0)? == 400_000);
     assert!(rt; ledger.open_quantity(&sheet, 1)? == 200_000);
@@ -102,15 +121,8 @@ fn the_worked_day_by_largest_remainder(rt: HostRuntime) -> Result<(), Fail> {
     let mut ledger = two_points(&mut sheet, SECOND)?;
     let mut work = WORK;
     let rule = LargestRemainder;
-    let told = share(
-        &mut ledger,
-        &rule,
-        [300_000, 80_000],
-        20_000,
-        &mut sheet,
-        &mut work,
-    )?;
-    assert!(rt; told == TOLD && sheet == SHARED && is_worked(&ledger));
+    let returned = run(&mut ledger, &WORKED, &rule, &mut sheet, &mut work)?;
+    assert!(rt; returned == RETURNED && sheet == SHARED && is_worked(&ledger));
     Ok(())
 }
 
@@ -120,17 +132,10 @@ fn accounts_outlast_an_abandoned_day(rt: HostRuntime) -> Result<(), Fail> {
     let mut sheet = [Point::UNUSED; 3];
     let mut ledger = two_points(&mut sheet, SECOND)?;
     let mut work = WORK;
-    share(
-        &mut ledger,
-        &Running,
-        [300_000, 80_000],
-        20_000,
-        &mut sheet,
-        &mut work,
-    )?;
+    run(&mut ledger, &WORKED, &Running, &mut sheet, &mut work)?;
     let before = Seen::of(&ledger);
     let day = measured(&mut ledger, [5, 6], 1_000_000, 0)?;
-    end_measured(&mut ledger, day);
+    end(&mut ledger, day);
     assert!(rt; Seen::of(&ledger) == before.with_opened(2) && sheet == SHARED);
     Ok(())
 }
@@ -160,21 +165,14 @@ fn a_point_joins_between_days(rt: HostRuntime) -> Result<(), Fail> {
     let mut sheet = [Point::UNUSED; 3];
     let mut ledger = two_points(&mut sheet, SECOND)?;
     let mut work = WORK;
-    share(
-        &mut ledger,
-        &Running,
-        [300_000, 80_000],
-        20_000,
-        &mut sheet,
-        &mut work,
-    )?;
+    run(&mut ledger, &WORKED, &Running, &mut sheet, &mut work)?;
     let joined = Particulars {
         scale_factor: 500_000,
         ..GIVEN
     };
     let number = ledger.admit_point(&mut sheet, joined)?;
-    let told = share(&mut ledger, &Running, [0, 0], 0, &mut sheet, &mut work)?;
-    assert!(rt; number == 2 && told.quantity == 1_000_000 && told.total == 152_888);
+    let returned = run(&mut ledger, &PLAIN, &Running, &mut sheet, &mut work)?;
+    assert!(rt; number == 2 && returned.quantity == 1_000_000 && returned.total == 152_888);
     assert!(rt; work.shares == [500_000, 250_000, 250_000] && sheet == JOINED);
     assert!(rt;
         Seen::of(&ledger).account == [Ok(1_450_000), Ok(530_000)] && ledger.next_day() == 3563
@@ -182,7 +180,8 @@ fn a_point_joins_between_days(rt: HostRuntime) -> Result<(), Fail> {
     Ok(())
 }
 
-// A layer takes all of the first point's segment away outside winter; the day is of season 1, so the second point gets all.
+// A layer takes all of the first point's segment away outside winter; the day is of season 1, so
+// the second point gets all.
 #[test]
 fn a_day_by_its_own_season(rt: HostRuntime) -> Result<(), Fail> {
     let second = Point {
@@ -197,12 +196,15 @@ fn a_day_by_its_own_season(rt: HostRuntime) -> Result<(), Fail> {
     let mut numbers = [10_000_000; 1524];
     numbers[381..].fill(0);
     layer.fill(&numbers)?;
-    let day = measured(&mut ledger, [0, 0], 980_000, 0)?;
+    let inputs = DayInputs {
+        inflow: 980_000,
+        ..PLAIN
+    };
     let mut uses = [7; 2];
     let mut shares = [8; 2];
-    shared_out(
+    run_day(
         &mut ledger,
-        day,
+        &inputs,
         &mut sheet,
         &layer,
         &Running,

@@ -1,4 +1,5 @@
 pub mod Playing
 pub mod Printed
-pub mod Running
+pub mod RunningDay
 pub mod Slips
+pub mod Station

@@ -1,71 +1,63 @@
--- What the playing of a call makes of the ledger.
-use Rattle.std.specs.Prelude.{◌≡◌, Bool, true, false, List}
+-- What the playing of a call makes of the state.
+use Rattle.std.specs.Prelude.{◌≡◌, Bool, true, false, List, vec_items}
 use Rattle.journal.specs.declared.call.Call.{Call}
 use Rattle.journal.specs.declared.call.Call.TheVariants as call
-use Rattle.ledger.specs.declared.book.Book.{Book}
 use Rattle.rows.specs.declared.point.Point.{Point}
-use Rattle.ledger.specs.Days.{admit_book, point_book, open_book, enter_book, inflow_book}
-use Rattle.player.specs.declared.station.Running.{Running}
-use Rattle.player.specs.Running.{open_day, abandoned}
+use Rattle.ledger.specs.declared.book.Book.{Book}
+use Rattle.ledger.specs.Days.{trader_admission, point_admission, opening, metered_entry, measurement}
+use Rattle.ledger.specs.Outcomes.{Outcome}
+use Rattle.player.specs.declared.state.State.{State}
+use Rattle.player.specs.RunningDay.{open_day}
+use Rattle.player.specs.Station.{day_abandonment}
 
--- the calls that open, measure or end the day
-abbrev pub of_day : Call → Bool
-of_day (call.Ledger d) = false
-of_day (call.Sheet n) = false
-of_day (call.Table n f) = false
-of_day (call.Even n f) = false
-of_day (call.Season n s f b) = false
-of_day (call.Trader n) = false
-of_day (call.Point t s d l r f) = false
-of_day (call.Open t s) = true
-of_day (call.Enter t l) = false
-of_day (call.Inflow l r) = true
-of_day (call.Share p r) = true
-of_day call.Abandon = true
-of_day (call.Read p r) = false
-of_day (call.Book p) = false
-of_day (call.HandOver p t) = false
-of_day (call.Withdraw p) = false
-of_day (call.Quantity t) = false
+abbrev pub book_of : State → Book
+book_of state = state.station.ledger.book
 
--- the calls that act on a point's slip
-abbrev pub of_slip : Call → Bool
-of_slip (call.Ledger d) = false
-of_slip (call.Sheet n) = false
-of_slip (call.Table n f) = false
-of_slip (call.Even n f) = false
-of_slip (call.Season n s f b) = false
-of_slip (call.Trader n) = false
-of_slip (call.Point t s d l r f) = false
-of_slip (call.Open t s) = false
-of_slip (call.Enter t l) = false
-of_slip (call.Inflow l r) = false
-of_slip (call.Share p r) = false
-of_slip call.Abandon = false
-of_slip (call.Read p r) = true
-of_slip (call.Book p) = true
-of_slip (call.HandOver p t) = true
-of_slip (call.Withdraw p) = true
-of_slip (call.Quantity t) = false
+abbrev pub rows_of : State → List Point
+rows_of state = vec_items state.sheets.points
 
--- the ledger after a call is what the ledger's own definition makes of it; a share-out is pinned where its profile is at
--- hand, a reading and a booking where the slip is
-abbrev pub Plays : Call → List Point → Running → Book → Book → Type 0
-Plays (call.Ledger d) sheet running old new = new ≡ old
-Plays (call.Sheet n) sheet running old new = new ≡ old
-Plays (call.Table n f) sheet running old new = new ≡ old
-Plays (call.Even n f) sheet running old new = new ≡ old
-Plays (call.Season n s f b) sheet running old new = new ≡ old
-Plays (call.Trader n) sheet running old new = new ≡ admit_book old
-Plays (call.Point t s d l r f) sheet running old new =
-    new ≡ point_book old sheet (record { trader = t; segment = s; digits = d; litres_per_unit = l; reading = r; scale_factor = f })
-Plays (call.Open t s) sheet running old new = new ≡ open_book old t s
-Plays (call.Enter t l) sheet running old new = new ≡ enter_book old (open_day running) t l
-Plays (call.Inflow l r) sheet running old new = new ≡ inflow_book old (open_day running) l r
-Plays (call.Share p r) sheet running old new = Unit {0}
-Plays call.Abandon sheet running old new = new ≡ abandoned old running
-Plays (call.Read p r) sheet running old new = Unit {0}
-Plays (call.Book p) sheet running old new = Unit {0}
-Plays (call.HandOver p t) sheet running old new = Unit {0}
-Plays (call.Withdraw p) sheet running old new = new ≡ old
-Plays (call.Quantity t) sheet running old new = new ≡ old
+-- the call on the running day or on a slip
+abbrev pub is_day_or_slip_call : Call → Bool
+is_day_or_slip_call (call.Open t s) = true
+is_day_or_slip_call (call.Inflow l r) = true
+is_day_or_slip_call (call.Share p r) = true
+is_day_or_slip_call call.Abandon = true
+is_day_or_slip_call (call.Read p r) = true
+is_day_or_slip_call (call.Book p) = true
+is_day_or_slip_call (call.HandOver p t) = true
+is_day_or_slip_call (call.Withdraw p) = true
+is_day_or_slip_call c = false
+
+-- the ledger and the sheet of a state are what a call with this outcome leaves
+pub record Leaves {A : Type 0} (o : Outcome A) (new : State) : Type 0 where
+  pub book : book_of new ≡ o.book
+  pub rows : rows_of new ≡ o.rows
+
+-- the state after a call has what the ledger's own definition makes of the old one; a share-out is
+-- pinned where its profile is at hand, a reading, a booking and a hand-over where the slip is
+abbrev pub Plays : Call → State → State → Type 0
+Plays (call.Trader n) old new = Leaves (trader_admission (book_of old) (rows_of old)) new
+Plays (call.Point t s d l r f) old new =
+    Leaves (point_admission (book_of old) (rows_of old)
+    (record {
+      trader = t;
+      segment = s;
+      digits = d;
+      litres_per_unit = l;
+      reading = r;
+      scale_factor = f;
+    }))
+    new
+Plays (call.Open t s) old new =
+    Leaves (opening (book_of old) (rows_of old) (record { temperature = t; season = s })) new
+Plays (call.Enter t l) old new =
+    Leaves (metered_entry (book_of old) (rows_of old) (open_day old.station.running) t l) new
+Plays (call.Inflow l r) old new =
+    Leaves (measurement (book_of old) (rows_of old) (open_day old.station.running) l r) new
+Plays (call.Share p r) old new = Unit {0}
+Plays call.Abandon old new =
+    Leaves (day_abandonment (book_of old) (rows_of old) old.station.running) new
+Plays (call.Read p r) old new = Unit {0}
+Plays (call.Book p) old new = Unit {0}
+Plays (call.HandOver p t) old new = Unit {0}
+Plays c old new = book_of new ≡ book_of old

@@ -17,10 +17,13 @@ field_of csv name n = named_field csv name (decimal n)
 -- a point's line in a share-out
 abbrev pub point_line : Bool → ℕ → ℕ → ℕ → ℕ → List ℕ
 point_line csv line point consumption share =
-    decimal line ++ (field_of csv (codes "point") point ++ (field_of csv (codes "consumption") consumption ++ (field_of csv (codes "share") share ++ (10 ∷ []))))
+    decimal line
+    ++ (field_of csv (codes "point") point
+    ++ (field_of csv (codes "consumption") consumption
+    ++ (field_of csv (codes "share") share ++ (10 ∷ []))))
 
--- a report with more bytes at its end
-pub record Adds (was now : Report) (more : List ℕ) : Type 0 where
-  pub bytes : vec_items now.bytes ≡ vec_items was.bytes ++ more
-  pub form : now.csv ≡ was.csv
-  pub line : now.line ≡ was.line
+-- the new report has more bytes at its end
+pub record Adds (old new : Report) (more : List ℕ) : Type 0 where
+  pub bytes : vec_items new.bytes ≡ vec_items old.bytes ++ more
+  pub form : new.csv ≡ old.csv
+  pub line : new.line ≡ old.line

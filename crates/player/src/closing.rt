@@ -1,4 +1,4 @@
-// The closing report: the accounts, the correction account and the balance.
+//! The closing report: the accounts, the correction account and the balance (docs/JOURNAL.md).
 use crate::report::Report;
 use crate::slips::Slips;
 use ledger::{Ledger, Point};
@@ -7,23 +7,28 @@ use year::totals;
 
 #[derive(Drop)]
 pub(crate) struct Closing<'a> {
+    // the number of the day that still ran, which is abandoned
+    pub(crate) abandoned: Option<u32>,
     pub(crate) ledger: &'a Ledger,
     pub(crate) sheet: &'a [Point],
     // the traders' names
     pub(crate) traders: &'a [Vec<u8>],
-    // of all days shared out
+    // of all days shared out, in litres
     pub(crate) inflow: u64,
 }
 
 impl Closing<'_> {
-    pub(crate) fn tell(&self, report: &mut Report) -> Result<(), AllocError> {
-        let all = totals(self.ledger, self.sheet);
-        report.closing("loss", |report| report.number(all.loss))?;
-        for (trader, name) in (0u32..).zip(self.traders) {
-            self.tell_trader(trader, name.as_slice(), report)?;
+    pub(crate) fn print(&self, report: &mut Report) -> Result<(), AllocError> {
+        if let Some(opening) = self.abandoned {
+            report.print_closing("abandon", |report| report.field("opening", opening))?;
         }
-        report.closing("correction", |report| report.number(all.correction))?;
-        report.closing("balance", |report| {
+        let all = totals(self.ledger, self.sheet);
+        report.print_closing("loss", |report| report.number(all.loss))?;
+        for (trader, name) in (0u32..).zip(self.traders) {
+            self.print_trader(trader, name.as_slice(), report)?;
+        }
+        report.print_closing("correction", |report| report.number(all.correction))?;
+        report.print_closing("balance", |report| {
             report.field("inflow", self.inflow)?;
             report.field("loss", all.loss)?;
             report.field("accounts", all.accounts)?;
@@ -34,27 +39,32 @@ impl Closing<'_> {
         })
     }
 
-    fn tell_trader(&self, trader: u32, name: &[u8], report: &mut Report) -> Result<(), AllocError> {
-        report.closing("trader", |report| {
+    fn print_trader(
+        &self,
+        trader: u32,
+        name: &[u8],
+        report: &mut Report,
+    ) -> Result<(), AllocError> {
+        report.print_closing("trader", |report| {
             report.number(trader)?;
             report.text(name)?;
             match self.ledger.account(trader) {
                 Ok(account) => report.field("account", account)?,
-                Err(why) => report.refused(why)?,
+                Err(why) => report.refusal(why)?,
             }
             report.text(b"open")?;
             match self.ledger.open_quantity(self.sheet, trader) {
                 Ok(litres) => report.number(litres),
-                Err(why) => report.refused(why),
+                Err(why) => report.refusal(why),
             }
         })
     }
 }
 
 // A line for each slip that is still open, by its point.
-pub(crate) fn tell_open_slips(slips: &Slips, report: &mut Report) -> Result<(), AllocError> {
+pub(crate) fn print_open_slips(slips: &Slips, report: &mut Report) -> Result<(), AllocError> {
     for slip in slips.as_slice() {
-        report.closing("withdraw", |report| {
+        report.print_closing("withdraw", |report| {
             report.field("point", slip.point())?;
             report.field("slip", slip.number())
         })?;

@@ -1,4 +1,4 @@
-// Plays the calls of a journal on one ledger, and writes down what each was told.
+//! Plays the calls of a journal on one ledger and prints what each returned (docs/JOURNAL.md).
 #![tactic(auto)]
 
 mod closing;

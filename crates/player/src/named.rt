@@ -1,4 +1,4 @@
-// The profiles of a journal, by their names.
+//! The profiles of a journal, by their names.
 use crate::recipe::{Layer, Recipe};
 use crate::report::Report;
 use crate::trouble::Trouble;
@@ -44,7 +44,7 @@ impl Profiles {
             }
             Err(why) => Err(why),
         };
-        Ok(report.tell(Kind::Profile, segments, |report, segments| {
+        Ok(report.print_call(Kind::Profile, segments, |report, segments| {
             report.text(name)?;
             report.field("segments", segments)
         })?)

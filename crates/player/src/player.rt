@@ -1,11 +1,12 @@
-// What a journal has set up, and the playing of its calls.
+//! What a journal has set up, and the playing of its calls.
 ghost use Rattle.std.specs.Prelude.{◌≡◌, ◌≤◌, false, Ok, IfOk, IfErr, IsOk, vec_len};
 ghost use Rattle.ledger.specs.Accounts.{new_book};
-ghost use Rattle.ledger.specs.Days.{admit_book, point_book, open_book, enter_book, inflow_book};
-ghost use Rattle.player.specs.Playing.{Plays, of_day, of_slip};
-ghost use Rattle.player.specs.Running.{open_day, abandoned};
+ghost use Rattle.ledger.specs.Days.{trader_admission, point_admission, opening, metered_entry, measurement};
+ghost use Rattle.player.specs.Playing.{Leaves, Plays, book_of, rows_of, is_day_or_slip_call};
+ghost use Rattle.player.specs.RunningDay.{open_day};
+ghost use Rattle.player.specs.Station.{day_abandonment};
 
-use crate::closing::{Closing, tell_open_slips};
+use crate::closing::{Closing, print_open_slips};
 use crate::named::Profiles;
 use crate::recipe::{Layer, Recipe};
 use crate::report::Report;
@@ -24,22 +25,22 @@ use std::alloc::{AllocError, Global};
 
 const PLACES: usize = ledger::MAX_POINTS;
 
-// A journal's points are u32 and a ledger's usize, which goes by a cast: there is no `From` between them.
+/// What a journal has set up: the ledger, its sheets, open slips, profiles and names.
 pub struct Player {
     heap: Global,
     state: State,
     profiles: Profiles,
     // their names
     traders: Vec<Vec<u8>>,
-    // the inflow of the day that was measured last, nought before the first. An `Option` is no plainer: the inflow is read only once a
-    // share-out was accepted, so that a `None` could not come
+    // the inflow of the day that was measured last, in litres, 0 before the first
     measured: u64,
     // that of all days shared out
     inflow: u64,
 }
 
 impl Player {
-    // Nothing set up yet but a sheet of 4,096 unused places; the line of the first call is told.
+    /// Nothing set up yet but a sheet of 4,096 unused places. Prints the line of the first call,
+    /// which stands in line `line` of the journal and gives the first day (docs/CALENDAR.md).
     pub fn begin(
         heap: Global,
         line: u64,
@@ -51,7 +52,7 @@ impl Player {
         ensures none { IfOk result (λ p. vec_len p.state.slips.open ≡ 0) }
     {
         report.go_to(line);
-        report.tell(Kind::Ledger, Ok(first_day), |report, day| {
+        report.print_call(Kind::Ledger, Ok(first_day), |report, day| {
             report.field("day", day)
         })?;
         let sheets = Sheets::new(heap, PLACES)?;
@@ -70,8 +71,8 @@ impl Player {
         })
     }
 
-    // Plays a call. `numbers` are those of the call's file, where it has one. The weather and a point's particulars are put together here
-    // from the call's fields: the journal's crate has neither type, since it knows neither the ledger nor the profiles.
+    /// Plays the call in line `line` of the journal, and prints its lines (docs/JOURNAL.md).
+    /// `numbers` are those of the call's file, where it has one.
     pub fn play(
         &mut self,
         line: u64,
@@ -79,7 +80,7 @@ impl Player {
         numbers: Vec<u32>,
         report: &mut Report,
     ) -> Result<(), Trouble>
-        ensures { Plays call.entry self.old.state.sheets.points.items self.old.state.station.running self.old.state.station.ledger.book self.new.state.station.ledger.book }
+        ensures { Plays call.entry self.old.state self.new.state }
     {
         report.go_to(line);
         match call {
@@ -111,7 +112,8 @@ impl Player {
         numbers: Vec<u32>,
         report: &mut Report,
     ) -> Result<(), Trouble>
-        ensures { of_day call.entry ≡ false → of_slip call.entry ≡ false → Plays call.entry self.old.state.sheets.points.items self.old.state.station.running self.old.state.station.ledger.book self.new.state.station.ledger.book }
+        ensures { is_day_or_slip_call call.entry ≡ false →
+            Plays call.entry self.old.state self.new.state }
     {
         match call {
             Call::Trader { name } => self.admit_trader(name.unwrap_or(b"-"), report),
@@ -147,56 +149,64 @@ impl Player {
     }
 
     fn admit_trader(&mut self, name: &[u8], report: &mut Report) -> Result<(), Trouble>
-        ensures { self.new.state.station.ledger.book ≡ admit_book self.old.state.station.ledger.book }
+        ensures { Leaves (trader_admission (book_of self.old.state) (rows_of self.old.state))
+            self.new.state }
     {
-        let told = self.state.station.admit_trader();
-        if told.is_ok() {
+        let answer = self.state.station.admit_trader();
+        if answer.is_ok() {
             self.traders.push(Vec::from_slice(self.heap, name)?)?;
         }
-        Ok(report.tell(Kind::Trader, told, |report, trader| {
+        Ok(report.print_call(Kind::Trader, answer, |report, trader| {
             report.number(trader)?;
             report.text(name)
         })?)
     }
 
     fn admit_point(&mut self, given: Particulars, report: &mut Report) -> Result<(), Trouble>
-        ensures { self.new.state.station.ledger.book ≡ point_book self.old.state.station.ledger.book self.old.state.sheets.points.items given }
+        ensures { Leaves (point_admission (book_of self.old.state) (rows_of self.old.state) given)
+            self.new.state }
     {
         let sheet = self.state.sheets.points.as_mut_slice();
-        let told = self.state.station.admit_point(sheet, given);
+        let answer = self.state.station.admit_point(sheet, given);
         self.state.sheets.settled = true;
-        Ok(report.tell(Kind::Point, told, |report, point| report.number(point))?)
+        Ok(report.print_call(Kind::Point, answer, |report, point| report.number(point))?)
     }
 
     fn open(&mut self, weather: Weather, report: &mut Report) -> Result<(), Trouble>
-        ensures { self.new.state.station.ledger.book ≡ open_book self.old.state.station.ledger.book weather.temperature weather.season }
+        ensures { Leaves (opening (book_of self.old.state) (rows_of self.old.state) weather)
+            self.new.state }
     {
         let day = self.state.station.ledger().next_day();
-        let told = self.state.station.open(weather);
-        Ok(report.tell(Kind::Open, told, |report, opening| {
+        let answer = self.state.station.open(weather);
+        Ok(report.print_call(Kind::Open, answer, |report, opening| {
             report.field("opening", opening)?;
             report.field("day", day)
         })?)
     }
 
     fn enter(&mut self, trader: u32, litres: u64, report: &mut Report) -> Result<(), Trouble>
-        ensures { self.new.state.station.ledger.book ≡ enter_book self.old.state.station.ledger.book (open_day self.old.state.station.running) trader litres }
+        ensures { let day = open_day self.old.state.station.running in
+            Leaves
+            (metered_entry (book_of self.old.state) (rows_of self.old.state) day trader litres)
+            self.new.state }
     {
-        let told = self.state.station.enter(trader, litres);
-        Ok(report.tell(Kind::Enter, told, |report, metered| {
+        let answer = self.state.station.enter(trader, litres);
+        Ok(report.print_call(Kind::Enter, answer, |report, metered| {
             report.field("trader", trader)?;
             report.field("metered", metered)
         })?)
     }
 
     fn take_inflow(&mut self, litres: u64, rate: u32, report: &mut Report) -> Result<(), Trouble>
-        ensures { self.new.state.station.ledger.book ≡ inflow_book self.old.state.station.ledger.book (open_day self.old.state.station.running) litres rate }
+        ensures { let day = open_day self.old.state.station.running in
+            Leaves (measurement (book_of self.old.state) (rows_of self.old.state) day litres rate)
+            self.new.state }
     {
-        let told = self.state.station.take_inflow(litres, rate);
-        if told.is_ok() {
+        let answer = self.state.station.take_inflow(litres, rate);
+        if answer.is_ok() {
             self.measured = litres;
         }
-        Ok(report.tell(Kind::Inflow, told, |report, opening| {
+        Ok(report.print_call(Kind::Inflow, answer, |report, opening| {
             report.field("opening", opening)
         })?)
     }
@@ -205,56 +215,57 @@ impl Player {
     fn share(&mut self, name: &[u8], rule: Rule, report: &mut Report) -> Result<(), Trouble> {
         let points = self.state.station.ledger().counts().points;
         let recipe = self.profiles.find(name)?;
-        // Two types, of which each call has one: the contract of a share-out names the rule's shares by its type. (Tried: a `&dyn ShareRule`
-        // cannot stand for that type.)
-        let told = match rule {
-            Rule::Running => recipe.share(&mut self.state, &Running),
-            Rule::Largest => recipe.share(&mut self.state, &LargestRemainder),
+        let (station, sheets) = (&mut self.state.station, &mut self.state.sheets);
+        let answer = match rule {
+            Rule::Running => recipe.share_out(station, &Running, sheets),
+            Rule::Largest => recipe.share_out(station, &LargestRemainder, sheets),
         };
-        report.tell(Kind::Share, told, |report, out| {
+        report.print_call(Kind::Share, answer, |report, out| {
             report.field("A", out.quantity)?;
             report.field("S", out.total)?;
             report.field("loss", out.loss)
         })?;
-        if told.is_ok() {
+        if answer.is_ok() {
             self.inflow = self.inflow.saturating_add(self.measured);
             let sheets = &self.state.sheets;
             let both = sheets.uses.iter().zip(sheets.shares.iter());
             for (point, (consumption, share)) in (0u64..).zip(both).take(points) {
-                report.point(point, *consumption, *share)?;
+                report.print_point(point, *consumption, *share)?;
             }
         }
         Ok(())
     }
 
     fn abandon(&mut self, report: &mut Report) -> Result<(), Trouble>
-        ensures { self.new.state.station.ledger.book ≡ abandoned self.old.state.station.ledger.book self.old.state.station.running }
+        ensures { let running = self.old.state.station.running in
+            Leaves (day_abandonment (book_of self.old.state) (rows_of self.old.state) running)
+            self.new.state }
     {
-        let told = self.state.station.abandon();
-        Ok(report.tell(Kind::Abandon, told, |report, opening| {
+        let answer = self.state.station.abandon();
+        Ok(report.print_call(Kind::Abandon, answer, |report, opening| {
             report.field("opening", opening)
         })?)
     }
 
     fn read(&mut self, point: u32, reading: u32, report: &mut Report) -> Result<(), Trouble> {
-        let told = self.state.read(point as usize, reading)?;
-        Ok(report.tell(Kind::Read, told, |report, slip| {
+        let answer = self.state.read(point as usize, reading)?;
+        Ok(report.print_call(Kind::Read, answer, |report, slip| {
             report.field("point", point)?;
             report.field("slip", slip)
         })?)
     }
 
     fn book(&mut self, point: u32, report: &mut Report) -> Result<(), Trouble> {
-        let told = self.state.book(point as usize);
-        Ok(report.tell(Kind::Book, told, |report, correction| {
+        let answer = self.state.book(point as usize);
+        Ok(report.print_call(Kind::Book, answer, |report, correction| {
             report.field("point", point)?;
             report.field("correction", correction)
         })?)
     }
 
     fn hand_over(&mut self, point: u32, trader: u32, report: &mut Report) -> Result<(), Trouble> {
-        let told = self.state.hand_over(point as usize, trader);
-        Ok(report.tell(Kind::HandOver, told, |report, correction| {
+        let answer = self.state.hand_over(point as usize, trader);
+        Ok(report.print_call(Kind::HandOver, answer, |report, correction| {
             report.field("point", point)?;
             report.field("trader", trader)?;
             report.field("correction", correction)
@@ -262,10 +273,10 @@ impl Player {
     }
 
     fn withdraw(&mut self, point: u32, report: &mut Report) -> Result<(), Trouble>
-        ensures { self.new.state.station.ledger.book ≡ self.old.state.station.ledger.book }
+        ensures { book_of self.new.state ≡ book_of self.old.state }
     {
-        let told = self.state.withdraw(point as usize);
-        Ok(report.tell(Kind::Withdraw, told, |report, slip| {
+        let answer = self.state.withdraw(point as usize);
+        Ok(report.print_call(Kind::Withdraw, answer, |report, slip| {
             report.field("point", point)?;
             report.field("slip", slip)
         })?)
@@ -273,22 +284,24 @@ impl Player {
 
     fn quantity(&self, trader: u32, report: &mut Report) -> Result<(), Trouble> {
         let (station, sheets) = (&self.state.station, &self.state.sheets);
-        let told = station
+        let answer = station
             .ledger()
             .open_quantity(sheets.points.as_slice(), trader);
-        Ok(report.tell(Kind::Quantity, told, |report, litres| {
+        Ok(report.print_call(Kind::Quantity, answer, |report, litres| {
             report.field("trader", trader)?;
             report.field("litres", litres)
         })?)
     }
 
-    // The closing report. Slips that are still open are named and withdrawn, and a day that still runs is named and abandoned. Slips that
-    // the ledger would not take back come back before anything else: they cannot be let go, so they are the outer error.
+    /// Prints the closing report (docs/JOURNAL.md): slips that are still open are named and
+    /// withdrawn, and a day that still runs is named and abandoned. Slips that the ledger would not
+    /// take back are the outer error: then only the slips are named.
     pub fn close(self, report: &mut Report) -> Result<Result<(), Trouble>, Unended>
         ensures none { vec_len self.state.slips.open ≡ 0 → IsOk result }
-        ensures few { IfErr result (λ left. vec_len left.slips.open ≤ vec_len self.state.slips.open) }
+        ensures few { IfErr result
+            (λ left. vec_len left.slips.open ≤ vec_len self.state.slips.open) }
     {
-        let named = tell_open_slips(&self.state.slips, report);
+        let printed = print_open_slips(&self.state.slips, report);
         let Player {
             heap: _,
             state,
@@ -302,22 +315,25 @@ impl Player {
             slips,
             mut sheets,
         } = state;
-        let told = station.abandon();
+        let abandoned = station.abandon().ok();
         let ledger = station.close();
         slips.end(&ledger, sheets.points.as_mut_slice())?;
         let closing = Closing {
+            abandoned,
             ledger: &ledger,
             sheet: sheets.points.as_slice(),
             traders: traders.as_slice(),
             inflow,
         };
-        Ok(written(named, told, closing, report))
+        let printed = printed.and_then(|()| closing.print(report));
+        Ok(printed.map_err(Trouble::from))
     }
 
-    // Withdraws every slip that is still open, and ends the running day.
+    /// Withdraws every slip that is still open, and abandons the running day. Nothing is printed.
     pub fn end(self) -> Result<(), Unended>
         ensures none { vec_len self.state.slips.open ≡ 0 → result ≡ Ok tt }
-        ensures few { IfErr result (λ left. vec_len left.slips.open ≤ vec_len self.state.slips.open) }
+        ensures few { IfErr result
+            (λ left. vec_len left.slips.open ≤ vec_len self.state.slips.open) }
     {
         let Player {
             heap: _,
@@ -337,20 +353,7 @@ impl Player {
     }
 }
 
-fn written(
-    named: Result<(), AllocError>,
-    told: Result<u32, Refusal>,
-    closing: Closing<'_>,
-    report: &mut Report,
-) -> Result<(), Trouble> {
-    named?;
-    if let Ok(opening) = told {
-        report.closing("abandon", |report| report.field("opening", opening))?;
-    }
-    Ok(closing.tell(report)?)
-}
-
-// Plays a call that only sets up the sheets or a profile. All others but `ledger` were played above.
+// Plays a call that only sets up the sheets or a profile. The others but `ledger` do not come here.
 fn set_up(
     sheets: &mut Sheets,
     profiles: &mut Profiles,

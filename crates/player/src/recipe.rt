@@ -1,28 +1,30 @@
-// How a named profile is made: a table or an even profile, and up to two season layers over it.
-use crate::state::State;
+//! How a named profile is made: a table or an even profile, and up to two season layers over it.
+use crate::sheets::Sheets;
+use crate::station::Station;
 use ledger::SharedOut;
 use profiles::{EvenProfile, Profile, SeasonLayer, TableProfile};
 use refusals::Refusal;
 use shares::ShareRule;
 use std::alloc::{AllocError, Global};
 
-const MOST_LAYERS: usize = 2;
+const MAX_LAYERS: usize = 2;
 
+// Factors, in ten-millionths.
 #[derive(Clone, Drop)]
 enum Base {
     Table(Vec<u32>),
     Even(u32),
 }
 
-// The season numbers of one segment.
+// The season numbers of one segment, in ten-millionths.
 #[derive(Clone, Drop)]
 pub(crate) struct Layer {
     segment: u32,
     numbers: Vec<u32>,
 }
 
-// A profile is made anew for each share-out, from the sheets that were tested when it was named: a profile has no copy, and a layer
-// takes over the profile below it. (Tried: a layer over a borrowed one; the check cannot state SEGMENTS of a type with a lifetime.)
+// A profile is made anew for each share-out, from sheets that were tested when it was named: it has
+// no copy, and a layer takes the profile below it over.
 #[derive(Clone, Drop)]
 pub(crate) struct Recipe {
     base: Base,
@@ -37,7 +39,7 @@ fn table(numbers: &[u32]) -> Result<TableProfile, Refusal> {
 }
 
 impl Layer {
-    // A layer that can be made: its segment is tested, then its numbers.
+    // A layer that can be made; or refusal 7 for its segment, then 8 for its numbers.
     pub(crate) fn new(segment: u32, numbers: Vec<u32>) -> Result<Layer, Refusal> {
         let layer = Layer { segment, numbers };
         let _tested = layer.over(EvenProfile::new(0)?)?;
@@ -52,6 +54,7 @@ impl Layer {
 }
 
 impl Recipe {
+    // A table of these factors; or refusal 8.
     pub(crate) fn table(heap: Global, numbers: Vec<u32>) -> Result<Recipe, Refusal> {
         let _tested = table(numbers.as_slice())?;
         Ok(Recipe {
@@ -60,6 +63,7 @@ impl Recipe {
         })
     }
 
+    // An even profile of this factor; or refusal 8.
     pub(crate) fn even(heap: Global, factor: u32) -> Result<Recipe, Refusal> {
         let _tested = EvenProfile::new(factor)?;
         Ok(Recipe {
@@ -78,7 +82,7 @@ impl Recipe {
 
     // Whether another layer may stand over it.
     pub(crate) fn has_room(&self) -> bool {
-        self.layers.len() < MOST_LAYERS
+        self.layers.len() < MAX_LAYERS
     }
 
     // The same profile with one layer more.
@@ -88,30 +92,36 @@ impl Recipe {
         Ok(recipe)
     }
 
-    // Shares the measured day out by this profile.
-    pub(crate) fn share<R: ShareRule>(
+    // Shares the station's measured day out by this profile and a share rule.
+    pub(crate) fn share_out<R: ShareRule>(
         &self,
-        state: &mut State,
+        station: &mut Station,
         rule: &R,
+        sheets: &mut Sheets,
     ) -> Result<SharedOut, Refusal> {
         match &self.base {
-            Base::Table(numbers) => { self.share_over(table(numbers.as_slice())?, state, rule) }
-            Base::Even(factor) => { self.share_over(EvenProfile::new(*factor)?, state, rule) }
+            Base::Table(numbers) => {
+                self.share_over(table(numbers.as_slice())?, station, rule, sheets)
+            }
+            Base::Even(factor) => {
+                self.share_over(EvenProfile::new(*factor)?, station, rule, sheets)
+            }
         }
     }
 
     fn share_over<P: Profile + Drop, R: ShareRule>(
         &self,
         base: P,
-        state: &mut State,
+        station: &mut Station,
         rule: &R,
+        sheets: &mut Sheets,
     ) -> Result<SharedOut, Refusal> {
         match self.layers.as_slice() {
-            [] => state.share(&base, rule),
-            [layer] => state.share(&layer.over(base)?, rule),
+            [] => station.share(&base, rule, sheets),
+            [layer] => station.share(&layer.over(base)?, rule, sheets),
             [lower, upper, ..] => {
                 let lower = lower.over(base)?;
-                state.share(&upper.over(lower)?, rule)
+                station.share(&upper.over(lower)?, rule, sheets)
             }
         }
     }

@@ -1,4 +1,4 @@
-// The point sheet and the two work sheets of a share-out.
+//! The point sheet and the two work sheets of a share-out.
 ghost use Rattle.std.specs.Prelude.{◌≡◌, IfOk, vec_len};
 
 use crate::report::Report;
@@ -7,9 +7,10 @@ use journal::kind::Kind;
 use ledger::Point;
 use std::alloc::{AllocError, Global};
 
-const MOST_PLACES: u32 = 65536;
+const MAX_PLACES: u32 = 65536;
 
-// Three sheets and not one of all columns, since a share-out takes three slices.
+/// The point sheet, and the work sheets for the points' profile consumptions and for their shares,
+/// in litres: three, as a share-out takes them.
 #[derive(Drop)]
 pub struct Sheets {
     pub(crate) points: Vec<Point>,
@@ -37,7 +38,7 @@ impl Sheets {
         })
     }
 
-    // The size that a `sheet` call gives, which is told.
+    // Takes the size that a `sheet` call gives, and prints its line.
     pub(crate) fn set(
         &mut self,
         heap: Global,
@@ -47,13 +48,12 @@ impl Sheets {
         if self.settled {
             return Err(Trouble::SheetLate);
         }
-        if places > MOST_PLACES {
+        if places > MAX_PLACES {
             return Err(Trouble::TooManyPlaces);
         }
-        // A cast: there is no `From` of u32 for usize.
         *self = Sheets::new(heap, places as usize)?;
         self.settled = true;
-        Ok(report.tell(Kind::Sheet, Ok(places), |report, places| {
+        Ok(report.print_call(Kind::Sheet, Ok(places), |report, places| {
             report.field("places", places)
         })?)
     }

@@ -1,27 +1,30 @@
-// The slips of a journal's readings that are still open, so that a journal names them by their points.
+//! The slips of a journal's readings that are still open, so that a journal names them by their
+//! points.
 ghost use Rattle.std.specs.Prelude.{◌≡◌, ◌<◌, ◌≤◌, All, Ok, IfErr, IfSome, vec_len, vec_capacity, OnOk, OnSome};
 ghost use Rattle.std.specs.List.Sorted.{IsSearchInRange};
-ghost use Rattle.player.specs.Slips.{Made};
+ghost use Rattle.player.specs.Slips.{IsLedgerSlip};
 
 use ledger::{Ledger, MAX_POINTS, Point, Refused, Slip};
 use refusals::Refusal;
 use std::alloc::{AllocError, Global};
 
-// A point has at most one open slip. They stand by their points in a Vec and not in a map, which may have no memory for a slip that
-// a refusal hands back, and a slip cannot be let go.
+/// The open slips, at most one a point, in the order of their points. They stand in a Vec and not
+/// in a map, which may have no memory for a slip that a refusal hands back: a slip cannot be let
+/// go.
 pub struct Slips {
     open: Vec<Slip>,
-    ghost made: { All Made open.items },
+    ghost made: { All IsLedgerSlip open.items },
 }
 
-// Slips that a ledger would not take back. There is one of them at least.
+/// Slips that a ledger would not take back, one at least.
 pub struct Unended {
+    /// The slips: they cannot be let go, and `Slips::end_elsewhere` ends them.
     pub slips: Slips,
     ghost some: { 0 < vec_len slips.open },
 }
 
 impl Slips {
-    // No slip is open yet.
+    /// No slip is open yet.
     pub fn new(heap: Global) -> Slips
         ensures { vec_len result.open ≡ 0 }
     {
@@ -49,7 +52,7 @@ impl Slips {
     // Takes the point's slip out; a place is then free for it.
     pub(crate) fn take(&mut self, point: usize) -> Option<Slip>
         ensures room { OnSome result (vec_len self.new.open < vec_capacity self.new.open) }
-        ensures made { IfSome result Made }
+        ensures made { IfSome result IsLedgerSlip }
     {
         let place = self.place(point).ok()?;
         Some(self.open.remove(place))
@@ -65,19 +68,19 @@ impl Slips {
     // Puts a slip in its place.
     pub(crate) fn put(&mut self, slip: Slip)
         requires room { vec_len self.old.open < vec_capacity self.old.open }
-        requires made { Made slip }
+        requires made { IsLedgerSlip slip }
     {
         let place = self.place(slip.point()).unwrap_or_else(|place| place);
         self.open.insert(place, slip).unwrap();
     }
 
-    // What a call with a slip was told. Where it was refused the slip stays open.
-    pub(crate) fn keep<T>(&mut self, told: Result<T, Refused<Slip>>) -> Result<T, Refusal>
+    // The answer of a call with a slip. Where it was refused the slip stays open.
+    pub(crate) fn keep<T>(&mut self, answer: Result<T, Refused<Slip>>) -> Result<T, Refusal>
         requires room { vec_len self.old.open < vec_capacity self.old.open }
-        requires made { IfErr told (λ refused. Made refused.given) }
+        requires made { IfErr answer (λ refused. IsLedgerSlip refused.given) }
     {
-        match told {
-            Ok(told) => Ok(told),
+        match answer {
+            Ok(value) => Ok(value),
             Err(Refused { why, given }) => {
                 self.put(given);
                 Err(why)
@@ -85,7 +88,8 @@ impl Slips {
         }
     }
 
-    // Withdraws every slip that is still open. The ledger refuses none of its own; a slip that it did refuse comes back, since none can be let go.
+    // Withdraws every slip that is still open. The ledger refuses none of its own; one that it did
+    // refuse comes back with the rest, since none can be let go.
     pub(crate) fn end(self, ledger: &Ledger, sheet: &mut [Point]) -> Result<(), Unended>
         ensures none { vec_len self.open ≡ 0 → result ≡ Ok tt }
         ensures few { IfErr result (λ left. vec_len left.slips.open ≤ vec_len self.open) }
@@ -106,8 +110,8 @@ impl Slips {
         Ok(())
     }
 
-    // Withdraws every slip from a ledger made up for it, and tells how many there were. A slip cannot be let go, not even as the program
-    // ends: one that its own ledger would not take back, which does not happen to a ledger's own slips, is ended here.
+    /// Withdraws every slip from a ledger made up for it: their number. For slips that their own
+    /// ledger would not take back, which happens to none of its own.
     pub fn end_elsewhere(self) -> usize
         ensures { result ≡ vec_len self.open }
     {
@@ -135,10 +139,11 @@ fn full_ledger() -> Ledger
     ledger
 }
 
-// Withdraws a slip from a full ledger. A slip is only its number and its point: a sheet on which it is open at every place will do.
+// Withdraws a slip from a full ledger. A slip is only its number and its point: a sheet on which it
+// is open at every place will do.
 fn end_slip(ledger: &Ledger, slip: Slip)
     requires full { ledger.now.book.counts.points ≡ 4096 }
-    requires made { Made slip }
+    requires made { IsLedgerSlip slip }
 {
     let row = Point {
         slip: slip.number(),

@@ -1,16 +1,14 @@
-// What a call works on: the station, its open slips and the sheets.
+//! What a call works on: the station, its open slips and the sheets.
 ghost use Rattle.std.specs.Prelude.{◌≡◌};
 
 use crate::sheets::Sheets;
 use crate::slips::Slips;
 use crate::station::Station;
-use ledger::{MAX_POINTS, SharedOut};
-use profiles::Profile;
+use ledger::MAX_POINTS;
 use refusals::Refusal;
-use shares::ShareRule;
 use std::alloc::AllocError;
 
-// A point's calls take the numbers of their line too, two at most: a struct for those is no plainer, since each step would take it apart.
+/// The station, its open slips and the sheets.
 pub struct State {
     pub(crate) station: Station,
     pub(crate) slips: Slips,
@@ -18,16 +16,7 @@ pub struct State {
 }
 
 impl State {
-    // Shares the measured day out.
-    pub(crate) fn share<P: Profile, R: ShareRule>(
-        &mut self,
-        profile: &P,
-        rule: &R,
-    ) -> Result<SharedOut, Refusal> {
-        self.station.share(profile, rule, &mut self.sheets)
-    }
-
-    // Reads a point: the number of its slip. What the ledger answers is told, a refusal too; only a lack of memory ends the playing.
+    // Reads a point: the number of its slip. Only a lack of memory ends the playing.
     pub(crate) fn read(
         &mut self,
         point: usize,
@@ -44,16 +33,15 @@ impl State {
         )
     }
 
-    // Books the point's open slip: the correction. The steps of this and the next two are alike but for the call. Tried: one function
-    // over a closure; of sheets that a closure borrows, the facts that their type keeps are not known after it.
+    // Books the point's open slip: the correction in litres.
     pub(crate) fn book(&mut self, point: usize) -> Result<i64, Refusal> {
         let none = self.no_slip(point);
         let slip = self.slips.take(point).ok_or(none)?;
-        let told = self.station.book(self.sheets.points.as_mut_slice(), slip);
-        self.slips.keep(told)
+        let answer = self.station.book(self.sheets.points.as_mut_slice(), slip);
+        self.slips.keep(answer)
     }
 
-    // Hands the point of an open slip over: the correction.
+    // Hands the point of an open slip over: the correction in litres.
     pub(crate) fn hand_over(&mut self, point: usize, trader: u32) -> Result<i64, Refusal> {
         let fits = self.sheets.points.len() <= MAX_POINTS;
         let none = if fits && trader >= self.station.ledger().counts().traders {
@@ -63,8 +51,8 @@ impl State {
         };
         let slip = self.slips.take(point).ok_or(none)?;
         let sheet = self.sheets.points.as_mut_slice();
-        let told = self.station.hand_over(sheet, slip, trader);
-        self.slips.keep(told)
+        let answer = self.station.hand_over(sheet, slip, trader);
+        self.slips.keep(answer)
     }
 
     // Withdraws the point's open slip: its number.
@@ -75,8 +63,8 @@ impl State {
         let slip = self.slips.take(point).ok_or(none)?;
         let number = slip.number();
         let sheet = self.sheets.points.as_mut_slice();
-        let told = self.station.ledger().withdraw(sheet, slip);
-        self.slips.keep(told)?;
+        let answer = self.station.ledger().withdraw(sheet, slip);
+        self.slips.keep(answer)?;
         Ok(number)
     }
 

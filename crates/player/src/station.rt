@@ -1,11 +1,15 @@
-// A ledger with the one day that runs on it. The day's token is held here, so that a journal need not name it.
-ghost use Rattle.std.specs.Prelude.{◌≡◌, true, length};
+//! A ledger with the one day that runs on it. The day's token is held here, so that a journal need
+//! not name it.
+ghost use Rattle.std.specs.Prelude.{◌≡◌, List, true};
+ghost use Rattle.rows.specs.declared.point.Point.{Point as Row};
 ghost use Rattle.ledger.specs.Accounts.{new_book};
-ghost use Rattle.ledger.specs.Days.{admit_answer, admit_book, point_answer, point_book, point_sheet, open_answer, open_book, enter_book, inflow_answer, inflow_book};
-ghost use Rattle.ledger.specs.Outcomes.{Became, ended};
-ghost use Rattle.ledger.specs.Readings.{reading_at, booking, handing_over};
-ghost use Rattle.player.specs.Running.{tied, open_day, opened, measured, entry_told, abandon_told, abandoned, shared_told, on_measured};
-ghost use Rattle.ledger.specs.Sharing.{share_answer, share_book, share_sheet, share_shares};
+ghost use Rattle.ledger.specs.Days.{trader_admission, point_admission};
+ghost use Rattle.ledger.specs.Grounds.{call_answer};
+ghost use Rattle.ledger.specs.Outcomes.{Became};
+ghost use Rattle.ledger.specs.Readings.{reading_at, booking, hand_over};
+ghost use Rattle.ledger.specs.Sharing.{inputs_of, work_sheets_of};
+ghost use Rattle.player.specs.RunningDay.{is_tied, number_of, idle_fault};
+ghost use Rattle.player.specs.Station.{day_opening, day_entry, day_measurement, day_abandonment, closed_book, SharesDayOut};
 
 use crate::sheets::Sheets;
 use ledger::{
@@ -17,27 +21,54 @@ use refusals::Refusal;
 use shares::ShareRule;
 use std::mem::replace;
 
-// The running day.
-pub enum Running {
+/// The token of the running day.
+pub enum RunningDay {
     Idle,
     Open(OpenDay),
     Measured(MeasuredDay),
 }
 
+impl RunningDay {
+    // The day's number, by openings from 1; or refusal 20.
+    fn number(&self) -> Result<u32, Refusal>
+        ensures { result ≡ call_answer (idle_fault self.now) (number_of self.now) }
+    {
+        match self {
+            RunningDay::Idle => Err(Refusal::NotRunning),
+            RunningDay::Open(day) => Ok(day.number()),
+            RunningDay::Measured(day) => Ok(day.number()),
+        }
+    }
+
+    // Lets a day run where none does.
+    fn begin(&mut self, day: RunningDay)
+        requires { self.old ≡ RunningDay.Idle }
+        ensures { self.new ≡ day }
+    {
+        match replace(self, day) {
+            RunningDay::Idle => {}
+            _ => unreachable(),
+        }
+    }
+}
+
+/// A ledger and its running day. Each call is the ledger's; refusals are by number
+/// (docs/REFUSALS.md).
 pub struct Station {
     ledger: Ledger,
-    running: Running,
-    ghost tied: { tied ledger.book.phase running ≡ true },
+    running: RunningDay,
+    ghost tied: { is_tied ledger.book.phase running ≡ true },
 }
 
 impl Station {
+    /// A new ledger, whose first day is `first_day` (docs/CALENDAR.md), and no day running.
     pub fn new(first_day: u32) -> Station
         ensures state { result.ledger.book ≡ new_book first_day }
-        ensures idle { result.running ≡ Running.Idle }
+        ensures idle { result.running ≡ RunningDay.Idle }
     {
         Station {
             ledger: Ledger::new(first_day),
-            running: Running::Idle,
+            running: RunningDay::Idle,
         }
     }
 
@@ -47,69 +78,72 @@ impl Station {
         &self.ledger
     }
 
-    // This call, the next and `enter` say that the running day stays, since it lies in this type beside the ledger.
+    // Admits a trader: his number; or refusal 26.
     pub(crate) fn admit_trader(&mut self) -> Result<u32, Refusal>
-        ensures answer { result ≡ admit_answer self.old.ledger.book }
-        ensures state { self.new.ledger.book ≡ admit_book self.old.ledger.book }
+        ensures became { (s : List Row) →
+            Became (trader_admission self.old.ledger.book s) result self.new.ledger.book s }
         ensures day { self.new.running ≡ self.old.running }
     {
         self.ledger.admit_trader()
     }
 
+    // Admits a point: its number; or refusal 1, 3, 7 or 26.
     pub(crate) fn admit_point(
         &mut self,
         sheet: &mut [Point],
         given: Particulars,
     ) -> Result<usize, Refusal>
-        ensures answer { result ≡ point_answer self.old.ledger.book sheet.old given }
-        ensures state { self.new.ledger.book ≡ point_book self.old.ledger.book sheet.old given }
-        ensures rows { sheet.new ≡ point_sheet self.old.ledger.book sheet.old given }
+        ensures became { Became (point_admission self.old.ledger.book sheet.old given)
+            result self.new.ledger.book sheet.new }
         ensures day { self.new.running ≡ self.old.running }
     {
         self.ledger.admit_point(sheet, given)
     }
 
-    // Reads a point.
+    // Reads a point: its slip; or refusal 1, 4, 7, 11, 27 or 28.
     pub(crate) fn read(
         &mut self,
         sheet: &mut [Point],
         point: usize,
         reading: u32,
     ) -> Result<Slip, Refusal>
-        ensures became { Became (reading_at self.old.ledger.book sheet.old point reading) result self.new.ledger.book sheet.new }
+        ensures became { Became (reading_at self.old.ledger.book sheet.old point reading)
+            result self.new.ledger.book sheet.new }
     {
         self.ledger.read(sheet, point, reading)
     }
 
-    // Books a slip: the correction.
+    // Books a slip: the correction in litres; or refusal 1, 4, 11 or 21.
     pub(crate) fn book(&mut self, sheet: &mut [Point], slip: Slip) -> Result<i64, Refused<Slip>>
-        ensures { ended result self.new.ledger.book sheet.new ≡ booking self.old.ledger.book sheet.old slip }
+        ensures became { Became (booking self.old.ledger.book sheet.old slip)
+            result self.new.ledger.book sheet.new }
     {
         self.ledger.book(sheet, slip)
     }
 
-    // Hands a slip's point over: the correction.
+    // Hands a slip's point over: the correction in litres; or refusal 1, 3, 4, 11, 21 or 29.
     pub(crate) fn hand_over(
         &mut self,
         sheet: &mut [Point],
         slip: Slip,
         trader: u32,
     ) -> Result<i64, Refused<Slip>>
-        ensures became { Became (handing_over self.old.ledger.book sheet.old slip trader) result self.new.ledger.book sheet.new }
+        ensures became { Became (hand_over self.old.ledger.book sheet.old slip trader)
+            result self.new.ledger.book sheet.new }
     {
         self.ledger.hand_over(sheet, slip, trader)
     }
 
-    // Opens a day: its number by openings.
+    // Opens a day: its number, by openings from 1; or refusal 5, 22 or 23.
     pub(crate) fn open(&mut self, weather: Weather) -> Result<u32, Refusal>
-        ensures answer { result ≡ opened (open_answer self.old.ledger.book weather.temperature weather.season) }
-        ensures state { self.new.ledger.book ≡ open_book self.old.ledger.book weather.temperature weather.season }
+        ensures became { (s : List Row) →
+            Became (day_opening self.old.ledger.book s weather) result self.new.ledger.book s }
     {
         match &self.running {
-            Running::Idle => {
+            RunningDay::Idle => {
                 let day = self.ledger.open(weather)?;
                 let number = day.number();
-                begin(&mut self.running, Running::Open(day));
+                self.running.begin(RunningDay::Open(day));
                 Ok(number)
             }
             _ if weather.is_in_range() => Err(Refusal::DayRunning),
@@ -117,14 +151,16 @@ impl Station {
         }
     }
 
-    // Enters metered litres into the open day: the trader's metered sum of the day.
+    // Enters metered litres into the open day: the trader's metered sum of the day, in litres; or
+    // refusal 3, 6, 20 or 24.
     pub(crate) fn enter(&mut self, trader: u32, litres: u64) -> Result<u64, Refusal>
-        ensures answer { result ≡ entry_told self.old.ledger.book self.old.running trader litres }
-        ensures state { self.new.ledger.book ≡ enter_book self.old.ledger.book (open_day self.old.running) trader litres }
+        ensures became { (s : List Row) →
+            Became (day_entry self.old.ledger.book s self.old.running trader litres)
+            result self.new.ledger.book s }
         ensures day { self.new.running ≡ self.old.running }
     {
         match &self.running {
-            Running::Open(day) => {
+            RunningDay::Open(day) => {
                 self.ledger.enter(day, trader, litres)?;
                 self.ledger.metered(trader)
             }
@@ -134,40 +170,55 @@ impl Station {
         }
     }
 
-    // Takes the open day's inflow: its number by openings.
+    // Takes the open day's inflow in litres, at a loss rate in millionths: the day's number; or
+    // refusal 6, 20 or 25.
     pub(crate) fn take_inflow(&mut self, litres: u64, rate: u32) -> Result<u32, Refusal>
-        ensures answer { result ≡ measured (inflow_answer self.old.ledger.book (open_day self.old.running) litres rate) }
-        ensures state { self.new.ledger.book ≡ inflow_book self.old.ledger.book (open_day self.old.running) litres rate }
+        ensures became { (s : List Row) →
+            Became (day_measurement self.old.ledger.book s self.old.running litres rate)
+            result self.new.ledger.book s }
     {
-        let (running, told) = match replace(&mut self.running, Running::Idle) {
-            Running::Open(day) => {
+        match replace(&mut self.running, RunningDay::Idle) {
+            RunningDay::Open(day) => {
                 let number = day.number();
                 match self.ledger.take_inflow(day, litres, rate) {
-                    Ok(day) => (Running::Measured(day), Ok(number)),
-                    Err(Refused { why, given }) => (Running::Open(given), Err(why)),
+                    Ok(day) => {
+                        self.running.begin(RunningDay::Measured(day));
+                        Ok(number)
+                    }
+                    Err(Refused { why, given }) => {
+                        self.running.begin(RunningDay::Open(given));
+                        Err(why)
+                    }
                 }
             }
-            running if litres > MAX_LITRES || rate > MAX_RATE => (running, Err(Refusal::Litres)),
-            running => (running, Err(Refusal::NotRunning)),
-        };
-        begin(&mut self.running, running);
-        told
+            running => {
+                self.running.begin(running);
+                Err(if litres > MAX_LITRES || rate > MAX_RATE {
+                    Refusal::Litres
+                } else {
+                    Refusal::NotRunning
+                })
+            }
+        }
     }
 
-    // Shares the measured day out.
+    // Shares the measured day out by a profile and a share rule; or refusal 1, 2, 11, 20, 30, 31 or
+    // 32.
     pub(crate) fn share<P: Profile, R: ShareRule>(
         &mut self,
         profile: &P,
         rule: &R,
         sheets: &mut Sheets,
     ) -> Result<SharedOut, Refusal>
-        ensures answer { result ≡ shared_told self.old.running (length sheets.old.points.items) (λ d. share_answer self.old.ledger.book d sheets.old.points.items (P.Profile.tells profile.now) P.Profile.SEGMENTS (length sheets.old.uses.items) (length sheets.old.shares.items)) }
-        ensures state { self.new.ledger.book ≡ on_measured self.old.running self.old.ledger.book (λ d. share_book self.old.ledger.book d sheets.old.points.items (P.Profile.tells profile.now) R.ShareRule.shares P.Profile.SEGMENTS (length sheets.old.uses.items) (length sheets.old.shares.items)) }
-        ensures rows { sheets.new.points.items ≡ on_measured self.old.running sheets.old.points.items (λ d. share_sheet self.old.ledger.book d sheets.old.points.items (P.Profile.tells profile.now) R.ShareRule.shares P.Profile.SEGMENTS (length sheets.old.uses.items) (length sheets.old.shares.items)) }
-        ensures given { sheets.new.shares.items ≡ on_measured self.old.running sheets.old.shares.items (λ d. share_shares self.old.ledger.book d sheets.old.points.items (P.Profile.tells profile.now) R.ShareRule.shares P.Profile.SEGMENTS (length sheets.old.uses.items) sheets.old.shares.items) }
+        ensures { let tells = P.Profile.tells profile.now in
+            let handed = inputs_of tells P.Profile.SEGMENTS R.ShareRule.shares
+            sheets.old.uses.items sheets.old.shares.items in
+            SharesDayOut self.old.ledger.book sheets.old.points.items self.old.running handed
+            result self.new.ledger.book sheets.new.points.items
+            (work_sheets_of sheets.new.uses.items sheets.new.shares.items) }
     {
-        match replace(&mut self.running, Running::Idle) {
-            Running::Measured(day) => match self.ledger.share_out(
+        match replace(&mut self.running, RunningDay::Idle) {
+            RunningDay::Measured(day) => match self.ledger.share_out(
                 day,
                 sheets.points.as_mut_slice(),
                 profile,
@@ -175,14 +226,14 @@ impl Station {
                 sheets.uses.as_mut_slice(),
                 sheets.shares.as_mut_slice(),
             ) {
-                Ok(told) => Ok(told),
+                Ok(out) => Ok(out),
                 Err(Refused { why, given }) => {
-                    begin(&mut self.running, Running::Measured(given));
+                    self.running.begin(RunningDay::Measured(given));
                     Err(why)
                 }
             },
             running => {
-                begin(&mut self.running, running);
+                self.running.begin(running);
                 Err(if sheets.points.len() > MAX_POINTS {
                     Refusal::PointSheetLength
                 } else {
@@ -192,47 +243,31 @@ impl Station {
         }
     }
 
-    // Ends the running day: its number by openings. The two arms are alike but for the type of the day, and the ledger has a call for each.
+    // Abandons the running day: its number; or refusal 20.
     pub(crate) fn abandon(&mut self) -> Result<u32, Refusal>
-        ensures answer { result ≡ abandon_told self.old.running }
-        ensures state { self.new.ledger.book ≡ abandoned self.old.ledger.book self.old.running }
-        ensures idle { self.new.running ≡ Running.Idle }
+        ensures became { (s : List Row) →
+            Became (day_abandonment self.old.ledger.book s self.old.running)
+            result self.new.ledger.book s }
+        ensures idle { self.new.running ≡ RunningDay.Idle }
     {
-        match replace(&mut self.running, Running::Idle) {
-            Running::Idle => Err(Refusal::NotRunning),
-            Running::Open(day) => {
-                let number = day.number();
-                self.ledger.abandon_open(day).unwrap();
-                Ok(number)
-            }
-            Running::Measured(day) => {
-                let number = day.number();
-                self.ledger.abandon_measured(day).unwrap();
-                Ok(number)
-            }
+        let number = self.running.number()?;
+        match replace(&mut self.running, RunningDay::Idle) {
+            RunningDay::Idle => {}
+            RunningDay::Open(day) => self.ledger.abandon_open(day).unwrap(),
+            RunningDay::Measured(day) => self.ledger.abandon_measured(day).unwrap(),
         }
+        Ok(number)
     }
 
-    // The ledger, its running day ended.
+    /// The ledger, its running day abandoned.
     pub fn close(mut self) -> Ledger
-        ensures { result.book ≡ abandoned self.ledger.book self.running }
+        ensures { result.book ≡ closed_book self.ledger.book self.running }
     {
-        let _told = self.abandon();
+        let _answer = self.abandon();
         let Station { ledger, running } = self;
         match running {
-            Running::Idle => ledger,
+            RunningDay::Idle => ledger,
             _ => unreachable(),
         }
-    }
-}
-
-// Lets a day run where none does.
-fn begin(running: &mut Running, day: Running)
-    requires { running.old ≡ Running.Idle }
-    ensures { running.new ≡ day }
-{
-    match replace(running, day) {
-        Running::Idle => {}
-        _ => unreachable(),
     }
 }

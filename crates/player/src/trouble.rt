@@ -1,10 +1,12 @@
-// Why a call that is well written cannot be played where it stands.
+//! Why a call that is well written cannot be played where it stands.
 ghost use Rattle.std.specs.Prelude.{◌≡◌};
 ghost use Rattle.player.specs.declared.trouble.Trouble.TheVariants.{Memory};
 
 use std::alloc::{AllocError, AllocFailed};
 use thiserror::Error;
 
+/// Why a call cannot be played, in the words of standard error (docs/JOURNAL.md, "Malformed
+/// lines").
 #[derive(Clone, Copy, PartialEq, Eq, Debug, Error)]
 pub enum Trouble {
     #[error("no memory left")]

@@ -1,4 +1,4 @@
-// The even profile: one factor for every segment and weather.
+//! The even profile: one factor for every segment and weather.
 ghost use Rattle.std.specs.Prelude.{◌≡◌, ◌<◌, ◌≤◌, MatchResult};
 ghost use Rattle.refusals.specs.declared.Refusal.TheVariants.{ProfileSheet};
 ghost use Rattle.profiles.specs.Laws.{whole};

@@ -1,4 +1,4 @@
-// What a profile gives.
+//! What a profile gives.
 ghost use Rattle.std.specs.Prelude.{◌≡◌};
 ghost use Rattle.profiles.specs.Laws.{factors_of};
 

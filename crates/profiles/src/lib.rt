@@ -1,5 +1,5 @@
-// Profiles: which factors belong to a segment of customers in a weather (docs/RULES.md,
-// "Profiles").
+//! Profiles: which factors belong to a segment of customers in a weather (docs/RULES.md,
+//! "Profiles").
 #![tactic(auto)]
 
 mod even;

@@ -1,4 +1,4 @@
-// What every profile keeps.
+//! What every profile keeps.
 ghost use Rattle.std.specs.Prelude.{◌≡◌, ℕ, ◌≤◌};
 ghost use Rattle.profiles.specs.declared.factors.Factors.{Factors};
 ghost use Rattle.profiles.specs.declared.weather.Weather.{Weather};

@@ -1,4 +1,4 @@
-// A layer over any profile that scales the day factor of one segment by season and temperature.
+//! A layer over any profile that scales the day factor of one segment by season and temperature.
 ghost use Rattle.std.specs.Prelude.{◌≡◌, ◌<◌, ◌≤◌, true, replicate, is_ok, IfOk, if◌then◌else◌, MatchResult};
 ghost use Rattle.refusals.specs.declared.Refusal.TheVariants.{Particulars};
 ghost use Rattle.profiles.specs.Laws.{whole, SameTells};

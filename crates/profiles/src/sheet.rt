@@ -1,4 +1,4 @@
-// A sheet of numbers, none of them above a limit.
+//! A sheet of numbers, none of them above a limit.
 ghost use Rattle.std.specs.Prelude.{◌≡◌, ℕ, ◌<◌, ◌≤◌, length, replicate, is_ok, if◌then◌else◌, slice_index, nat_le};
 ghost use Rattle.std.specs.List.{list_all};
 ghost use Rattle.profiles.specs.Sheets.{fill_answer};

@@ -1,4 +1,4 @@
-// The published table: residential and business customers, by temperature.
+//! The published table: residential and business customers, by temperature.
 ghost use Rattle.std.specs.Prelude.{◌≡◌, true, replicate, is_ok, if◌then◌else◌};
 ghost use Rattle.profiles.specs.Laws.{whole, factors_of, SameTells};
 ghost use Rattle.profiles.specs.Sheets.{fill_answer};

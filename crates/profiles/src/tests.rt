@@ -1,4 +1,4 @@
-// The ends of the table, questions outside, refused sheets and a pile of layers.
+//! The ends of the table, questions outside, refused sheets and a pile of layers.
 use crate::even::EvenProfile;
 use crate::factors::Factors;
 use crate::profile::Profile;

@@ -1,4 +1,4 @@
-// The weather that a profile is asked about.
+//! The weather that a profile is asked about.
 ghost use Rattle.std.specs.Prelude.{◌≡◌, ◌+◌, ◌*◌, ◌<◌};
 ghost use Rattle.profiles.specs.Asked.{is_in_range, columns, column, place};
 

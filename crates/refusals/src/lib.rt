@@ -1,4 +1,4 @@
-// The refusals of every crate: one list, and one number for each.
+//! The refusals of every crate: one list, and one number for each.
 #![tactic(auto)]
 
 ghost use Rattle.std.specs.Prelude.{◌≡◌};

@@ -1,6 +1,6 @@
 //! The ledger's calls on days, each with what it leaves of the running day.
-ghost use Rattle.std.specs.Prelude.{◌≡◌, false, IfOk, IfErr, IsErr};
-ghost use Rattle.ledger.specs.Tokens.{is_idle, OpenToken, MeasuredToken};
+ghost use Rattle.std.specs.Prelude.{◌≡◌, IfOk, IfErr, IsErr};
+ghost use Rattle.ledger.specs.Tokens.{DayToken, OpenToken, MeasuredToken};
 ghost use Rattle.scenario.specs.Days.{IsRunning, HandsBack, SharesAtMost};
 
 use crate::day::Day;
@@ -13,7 +13,7 @@ use shares::ShareRule;
 pub fn open(ledger: &mut Ledger, weather: Weather) -> Result<OpenDay, Refusal>
     ensures running { IfOk result (λ day. IsRunning ledger.new.book (OpenToken day)) }
     ensures refused { IfErr result (λ _. ledger.new.book ≡ ledger.old.book) }
-    ensures busy { is_idle ledger.old.book.phase ≡ false → IsErr result }
+    ensures one_at_a_time { (day : DayToken) → IsRunning ledger.old.book day → IsErr result }
     ensures shared { SharesAtMost 0 ledger.old.book ledger.new.book }
 {
     ledger.open(weather)

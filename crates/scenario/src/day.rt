@@ -21,7 +21,7 @@ pub trait Day: Sized {
     fn number(&self) -> u32
         ensures { result ≡ number_of self.now };
 
-    /// The ledger's own call to abandon a day of this kind; or refusal 20, which hands the day back.
+    /// The ledger's own call to abandon a day of this kind; or refusal 20, which hands it back.
     fn abandon_on(self, ledger: &mut Ledger) -> Result<(), Refused<Self>>
         ensures { (s : List Row) →
             Became (abandonment ledger.old.book s (token self) self) result ledger.new.book s };

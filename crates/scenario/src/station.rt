@@ -28,8 +28,8 @@ fn admit_points(
     Ok(())
 }
 
-/// A new ledger with so many traders, and with these points in the first places of the sheet; or the
-/// refusal of the first admission that is refused.
+/// A new ledger with so many traders, and with these points in the first places of the sheet; or
+/// the refusal of the first admission that is refused.
 pub fn new_ledger(
     first_day: u32,
     traders: u32,

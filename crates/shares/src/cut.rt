@@ -1,4 +1,4 @@
-// Where the largest of a sheet of remainders are cut off from the others.
+//! Where the largest of a sheet of remainders are cut off from the others.
 ghost use Rattle.std.specs.Prelude.{◌≡◌, ◌-◌, ◌<◌, ◌≤◌, IfNone, IfSome, length};
 ghost use Rattle.shares.specs.Fair.{max_weights, max_total};
 ghost use Rattle.shares.specs.Counts.{count_above, count_from, IsCut};

@@ -1,5 +1,5 @@
-// The rule of the largest remainders. There is no place to sort in: the remainders stand in the
-// sheet of shares until the cut is found between those that get a litre more and those that do not.
+//! The rule of the largest remainders. There is no place to sort in: the remainders stand in the
+//! sheet of shares until the cut is found between those that get a litre more and the others.
 ghost use Rattle.std.specs.Prelude.{◌≡◌, ◌≤◌, length};
 ghost use Rattle.shares.specs.Rules.{remainders, litres_left, largest_remainder_shares};
 ghost use Rattle.shares.specs.Counts.{IsCut};

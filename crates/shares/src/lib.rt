@@ -1,4 +1,4 @@
-// Shares a quantity of gas among points by their weights, to the litre.
+//! Shares a quantity of gas among points by their weights, to the litre.
 #![tactic(auto)]
 
 mod cut;

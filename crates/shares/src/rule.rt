@@ -1,4 +1,4 @@
-// What every share rule keeps, and what a rule must give to be one.
+//! What every share rule keeps, and what a rule must give to be one.
 ghost use Rattle.std.specs.Prelude.{◌≡◌, ℕ, List, length};
 ghost use Rattle.shares.specs.Fair.{sheet_after};
 ghost use Rattle.shares.specs.Laws.{IsShareRule, SharesFairly, guarded_rule};

@@ -1,4 +1,4 @@
-// The running rule.
+//! The running rule.
 ghost use Rattle.shares.specs.Rules.{running_shares};
 ghost use Rattle.shares.specs.RunningLaws.{running_laws};
 

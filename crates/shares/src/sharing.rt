@@ -1,4 +1,4 @@
-// A quantity and the weights by which it can be shared.
+//! A quantity and the weights by which it can be shared.
 ghost use Rattle.std.specs.Prelude.{◌≡◌, ◌*◌, ◌/◌, ◌%◌, ◌≤◌, true, false, IfSome, IfNone, sum};
 ghost use Rattle.shares.specs.Fair.{max_quantity, max_total, fair};
 

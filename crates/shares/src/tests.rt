@@ -1,4 +1,4 @@
-// Both rules on worked figures, and at each limit and one past it.
+//! Both rules on worked figures, and at each limit and one past it.
 use crate::largest::LargestRemainder;
 use crate::rule::ShareRule;
 use crate::running::Running;

@@ -1,5 +1,5 @@
-// Reading points: what is refused, and what a withdrawn reading leaves.
-use crate::readings::slips::{Call, end, ended, reading};
+//! Reading points: what is refused, and what a withdrawn reading leaves.
+use crate::readings::slips::{Call, answer_of, end_slip, reading};
 use crate::readings::station::{TWIN, twins};
 use crate::seen::{Outcome, Seen};
 use crate::station::ROW;
@@ -17,7 +17,7 @@ fn tried<const N: usize>(
     let mut sheet = rows;
     let number = match reading(ledger, &mut sheet, point, dial) {
         Ok(slip) => {
-            end(ledger, slip);
+            end_slip(ledger, slip);
             None
         }
         Err(why) => Some(why.number()),
@@ -25,7 +25,7 @@ fn tried<const N: usize>(
     Outcome::new(number, before, ledger).with_sheet(sheet == rows)
 }
 
-// Each ground, beside one that is told after it where there is one; the last is accepted.
+// Each ground, beside one that comes after it where there is one; the last is accepted.
 #[test]
 fn readings_refused(rt: HostRuntime) -> Result<(), Fail> {
     let mut ledger = twins()?;
@@ -48,11 +48,11 @@ fn readings_refused(rt: HostRuntime) -> Result<(), Fail> {
 // Reads the first point and withdraws the reading.
 fn withdrawn(ledger: &mut Ledger, sheet: &mut [Point; 2]) -> Result<(), Fail> {
     let slip = reading(ledger, sheet, 0, 15)?;
-    ended(ledger, sheet, slip, Call::Withdraw)?;
+    answer_of(Call::Withdraw, ledger, sheet, slip)?;
     Ok(())
 }
 
-// A million readings are made and withdrawn; then there is no more. An open slip is told first.
+// A million readings are made and withdrawn; then there is no more. An open slip comes first.
 #[test]
 fn no_reading_after_a_million(rt: HostRuntime) -> Result<(), Fail> {
     let mut ledger = twins()?;
@@ -67,7 +67,8 @@ fn no_reading_after_a_million(rt: HostRuntime) -> Result<(), Fail> {
     Ok(())
 }
 
-// The row keeps the reading while the slip is open, and is as before once it is withdrawn. The number is not given again.
+// The row keeps the reading while the slip is open, and is as before once it is withdrawn. The
+// number is not given again.
 #[test]
 fn a_reading_withdrawn(rt: HostRuntime) -> Result<(), Fail> {
     let mut ledger = twins()?;
@@ -76,7 +77,7 @@ fn a_reading_withdrawn(rt: HostRuntime) -> Result<(), Fail> {
     let slip = reading(&mut ledger, &mut sheet, 1, 15)?;
     let kept = sheet;
     let first = slip.number();
-    ended(&mut ledger, &mut sheet, slip, Call::Withdraw)?;
+    answer_of(Call::Withdraw, &mut ledger, &mut sheet, slip)?;
     assert!(rt; first == 1 && Seen::of(&ledger) == before.with_readings(1) && sheet == [ROW, TWIN]);
     let open = Point {
         slip: 1,
@@ -87,7 +88,7 @@ fn a_reading_withdrawn(rt: HostRuntime) -> Result<(), Fail> {
     let next = reading(&mut ledger, &mut sheet, 1, 16)?;
     let second = next.number();
     let point = next.point();
-    ended(&mut ledger, &mut sheet, next, Call::Withdraw)?;
+    answer_of(Call::Withdraw, &mut ledger, &mut sheet, next)?;
     assert!(rt; second == 2 && point == 1);
     Ok(())
 }

@@ -1,5 +1,5 @@
-// Bookings, hand-overs and withdrawals that are refused.
-use crate::readings::slips::{Call, brought, ended, reading};
+//! Bookings, hand-overs and withdrawals that are refused.
+use crate::readings::slips::{Call, answer_of, outcome_of, reading};
 use crate::readings::station::{TWIN, three_points, twins};
 use crate::seen::{Outcome, Seen, number_of};
 use crate::station::ROW;
@@ -12,7 +12,7 @@ fn tried<const N: usize>(call: Call, rows: [Point; N]) -> Result<Outcome, Fail> 
     let slip = reading(&mut ledger, &mut [ROW, TWIN], 0, 15)?;
     let before = Seen::of(&ledger);
     let mut sheet = rows;
-    let number = number_of(ended(&mut ledger, &mut sheet, slip, call));
+    let number = number_of(answer_of(call, &mut ledger, &mut sheet, slip));
     Ok(Outcome::new(number, before, &ledger).with_sheet(sheet == rows))
 }
 
@@ -22,10 +22,11 @@ fn past_the_points<const N: usize>(call: Call, rows: [Point; N]) -> Result<Outco
     let mut other = three_points()?;
     let slip = reading(&mut other, &mut [ROW, TWIN, ROW], 2, 15)?;
     let mut sheet = rows;
-    Ok(brought(&mut ledger, &mut sheet, &other, slip, call))
+    Ok(outcome_of(call, &mut ledger, &mut sheet, &other, slip))
 }
 
-// The first point's row with its slip open; the same out of its ranges, of a trader not admitted, and with another slip open.
+// The first point's row with its slip open; the same out of its ranges, of a trader not admitted,
+// and with another slip open.
 const OPEN: Point = Point {
     slip: 1,
     kept_reading: 15,
@@ -46,7 +47,8 @@ struct Case {
     number: Option<u8>,
 }
 
-// Each ground beside one that is told after it, where there is one. A withdrawal asks nothing of the row but its slip.
+// Each ground beside one that comes after it, where there is one. A withdrawal asks nothing of the
+// row but its slip.
 static CASES: [Case; 13] = [
     Case {
         call: Call::Book,
@@ -123,7 +125,7 @@ fn rows_and_slips(rt: HostRuntime) -> Result<(), Fail> {
     Ok(())
 }
 
-// A sheet too short or too long, told before a trader or a row.
+// A sheet too short or too long comes before a trader or a row.
 #[test]
 fn sheets_of_a_wrong_length(rt: HostRuntime) -> Result<(), Fail> {
     assert!(rt; tried(Call::Book, [FOREIGN; 1])?.is(Some(1)));
@@ -133,7 +135,7 @@ fn sheets_of_a_wrong_length(rt: HostRuntime) -> Result<(), Fail> {
     Ok(())
 }
 
-// No such trader is told before no such point, and that before a row.
+// No such trader comes before no such point, and that before a row.
 #[test]
 fn no_such_trader_or_point(rt: HostRuntime) -> Result<(), Fail> {
     assert!(rt; past_the_points(Call::HandOver(2), [OPEN, TWIN, OPEN])?.is(Some(3)));

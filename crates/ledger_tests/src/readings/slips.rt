@@ -1,16 +1,17 @@
-// Slips for the tests. A slip cannot be let go, so each function here ends the slip that it is handed, or says how it can be ended, and what
-// that asks of the ledger. Ledger, sheet, slip and call go by themselves, since a test brings each to another's.
+//! Slips for the tests. A slip cannot be let go, so each function here ends the slip that it is
+//! handed, or says how it can be ended.
 ghost use Rattle.std.specs.Prelude.{◌≡◌, IfOk, IfErr};
-ghost use Rattle.ledger_tests.specs.Slips.{Endable};
+ghost use Rattle.ledger_tests.specs.Slips.{IsEndable};
 
 use crate::seen::{Outcome, Seen, number_of};
 use crate::station::ROW;
 use ledger::{Ledger, Point, Refused, Slip};
 use refusals::Refusal;
 
-// Ends a slip of a point of this ledger's. A slip is only its number and its point: any sheet on which it is open will do.
-pub(crate) fn end(ledger: &Ledger, slip: Slip)
-    requires { Endable ledger.now.book slip }
+// Ends a slip of a point of this ledger's. A slip is only its number and its point: any sheet on
+// which it is open will do.
+pub(crate) fn end_slip(ledger: &Ledger, slip: Slip)
+    requires { IsEndable ledger.now.book slip }
 {
     let row = Point {
         slip: slip.number(),
@@ -26,7 +27,7 @@ pub(crate) fn reading(
     point: usize,
     dial: u32,
 ) -> Result<Slip, Refusal>
-    ensures slip { IfOk result (λ s. Endable ledger.new.book s) }
+    ensures slip { IfOk result (λ s. IsEndable ledger.new.book s) }
     ensures day { ledger.new.book.phase ≡ ledger.old.book.phase }
 {
     ledger.read(sheet, point, dial)
@@ -40,12 +41,13 @@ pub(crate) enum Call {
     Withdraw,
 }
 
-// Makes the call: the correction, which a withdrawal leaves at nought. A refusal hands the slip back, and the points and the running day stay.
-pub(crate) fn ending(
+// Makes the call, and gives its correction, 0 of a withdrawal. A refusal hands the slip back;
+// points and running day stay.
+fn make(
+    call: Call,
     ledger: &mut Ledger,
     sheet: &mut [Point],
     slip: Slip,
-    call: Call,
 ) -> Result<i64, Refused<Slip>>
     ensures slip { IfErr result (λ e. e.given ≡ slip) }
     ensures points { ledger.new.book.counts.points ≡ ledger.old.book.counts.points }
@@ -58,47 +60,47 @@ pub(crate) fn ending(
     }
 }
 
-// The answer of a call with a slip. One that is refused is ended: it is of a point of this ledger's.
-fn settled(answer: Result<i64, Refused<Slip>>, ledger: &Ledger) -> Result<i64, Refusal>
-    requires { IfErr answer (λ e. Endable ledger.now.book e.given) }
+// A call's answer. A slip that it handed back is of a point of this ledger's, and ends.
+fn end_refused(ledger: &Ledger, answer: Result<i64, Refused<Slip>>) -> Result<i64, Refusal>
+    requires { IfErr answer (λ e. IsEndable ledger.now.book e.given) }
 {
     match answer {
         Ok(by) => Ok(by),
         Err(Refused { why, given }) => {
-            end(ledger, given);
+            end_slip(ledger, given);
             Err(why)
         }
     }
 }
 
-// The same call with a slip of a point of this ledger's.
-pub(crate) fn ended(
+// The answer of a call with a slip of a point of this ledger's. The slip ends in any case.
+pub(crate) fn answer_of(
+    call: Call,
     ledger: &mut Ledger,
     sheet: &mut [Point],
     slip: Slip,
-    call: Call,
 ) -> Result<i64, Refusal>
-    requires { Endable ledger.old.book slip }
+    requires { IsEndable ledger.old.book slip }
     ensures day { ledger.new.book.phase ≡ ledger.old.book.phase }
 {
-    let answer = ending(ledger, sheet, slip, call);
-    settled(answer, ledger)
+    let answer = make(call, ledger, sheet, slip);
+    end_refused(ledger, answer)
 }
 
-// The same call with a slip of a point of another ledger's, and how it was answered.
-pub(crate) fn brought<const N: usize>(
+// How a call with a slip of a point of another ledger's is answered. The slip ends in any case.
+pub(crate) fn outcome_of<const N: usize>(
+    call: Call,
     ledger: &mut Ledger,
     sheet: &mut [Point; N],
     other: &Ledger,
     slip: Slip,
-    call: Call,
 ) -> Outcome
-    requires { Endable other.now.book slip }
+    requires { IsEndable other.now.book slip }
     ensures { ledger.new.book.counts.points ≡ ledger.old.book.counts.points }
 {
     let before = Seen::of(ledger);
     let rows = *sheet;
-    let answer = ending(ledger, sheet, slip, call);
-    let number = number_of(settled(answer, other));
+    let answer = make(call, ledger, sheet, slip);
+    let number = number_of(end_refused(other, answer));
     Outcome::new(number, before, ledger).with_sheet(*sheet == rows)
 }

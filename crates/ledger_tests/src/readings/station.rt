@@ -1,12 +1,12 @@
-// Stations of points that use the same.
+//! Stations of points that are alike.
 use crate::station::{GIVEN, ROW, two_points};
 use ledger::{Ledger, Point};
 use std::test::Fail;
 
-// The second trader's point, which uses as much as the first's.
+// The second trader's point, like the first's.
 pub(crate) const TWIN: Point = Point { trader: 1, ..ROW };
 
-// A ledger of two traders and such points. Each test writes the sheet itself.
+// A ledger of two traders, each with such a point. Each test writes the sheet itself.
 pub(crate) fn twins() -> Result<Ledger, Fail> {
     two_points(&mut [Point::UNUSED; 2], TWIN)
 }

@@ -1,19 +1,20 @@
-// Bookings worked out by hand, and what ledger and sheet then hold.
-ghost use Rattle.std.specs.Prelude.{◌≡◌, true};
-ghost use Rattle.ledger.specs.Tokens.{is_measured};
+//! Bookings worked out by hand, and what ledger and sheet then hold.
+ghost use Rattle.ledger.specs.Tokens.{MeasuredToken};
+ghost use Rattle.scenario.specs.Days.{IsRunning};
 
-use crate::days::{measured, shared_out};
-use crate::readings::slips::{Call, ended, reading};
+use crate::days::measured;
+use crate::readings::slips::{Call, answer_of, reading};
 use crate::readings::station::{TWIN, twins};
 use crate::seen::Seen;
 use crate::station::ROW;
 use ledger::{Ledger, MeasuredDay, Point};
 use profiles::EvenProfile;
+use scenario::shared_out;
 use shares::Running;
 use std::test::Fail;
 
-// A row and the reading of its dial; the correction that its booking has to give, what the distributor's correction account then
-// holds, and the scale factor.
+// A row and the reading of its dial; the correction that its booking has to give, what the
+// distributor's correction account then holds, and the scale factor.
 #[derive(Clone, Copy)]
 struct Booking {
     row: Point,
@@ -23,7 +24,8 @@ struct Booking {
     scale_factor: u32,
 }
 
-// The dial rolls over from 99,990 to 15: 25 units of 1,000 litres, 5,000 litres less than were shared out.
+// The dial rolls over from 99,990 to 15: 25 units of 1,000 litres, 5,000 litres less than were
+// shared out.
 const ROLLED: Booking = Booking {
     row: Point {
         open_sum: 30_000,
@@ -110,13 +112,14 @@ static BOOKINGS: [Booking; 8] = [
     },
 ];
 
-// Whether a booking gives what it has to: in the row, in the trader's account, and the other way in the distributor's.
+// Whether a booking gives what it has to: in the row, in the trader's account, and the other way in
+// the distributor's.
 fn is_right(case: &Booking, call: Call, trader: u32) -> Result<bool, Fail> {
     let mut ledger = twins()?;
     let before = Seen::of(&ledger);
     let mut sheet = [case.row, TWIN];
     let slip = reading(&mut ledger, &mut sheet, 0, case.dial)?;
-    let told = ended(&mut ledger, &mut sheet, slip, call)?;
+    let returned = answer_of(call, &mut ledger, &mut sheet, slip)?;
     let booked = Point {
         trader,
         reading: case.dial,
@@ -126,7 +129,7 @@ fn is_right(case: &Booking, call: Call, trader: u32) -> Result<bool, Fail> {
     let after = before
         .with_readings(1)
         .with_booking([case.correction, 0], case.distributor);
-    Ok(told == case.correction && sheet == [booked, TWIN] && Seen::of(&ledger) == after)
+    Ok(returned == case.correction && sheet == [booked, TWIN] && Seen::of(&ledger) == after)
 }
 
 #[test]
@@ -151,11 +154,10 @@ fn handed_over_within(
     sheet: &mut [Point],
     profile: &EvenProfile,
 ) -> Result<i64, Fail>
-    requires { is_measured ledger.old.book.phase day.number ≡ true }
+    requires { IsRunning ledger.old.book (MeasuredToken day) }
 {
-    // Tried: `and_then`. What its closure leaves of the running day is not known after it.
-    let told = match reading(ledger, sheet, 0, 15) {
-        Ok(slip) => ended(ledger, sheet, slip, Call::HandOver(1)),
+    let correction = match reading(ledger, sheet, 0, 15) {
+        Ok(slip) => answer_of(Call::HandOver(1), ledger, sheet, slip),
         Err(why) => Err(why),
     };
     shared_out(
@@ -167,10 +169,11 @@ fn handed_over_within(
         &mut [0; 2],
         &mut [0; 2],
     )?;
-    Ok(told?)
+    Ok(correction?)
 }
 
-// A day of 980,000 litres was measured before the hand-over. The correction is the first trader's, and the day's share the second's.
+// A day of 980,000 litres was measured before the hand-over. The correction is the first trader's,
+// and the day's share the second's.
 #[test]
 fn a_hand_over_within_a_day(rt: HostRuntime) -> Result<(), Fail> {
     let mut ledger = twins()?;

@@ -12,5 +12,6 @@ returns g c =
     let e = c.abandon_on.ensures [] in
     record {
       refused = handed (λ _ _. Unit {0}) _ c.args.day _ _ l _ _ e.answer e.book tt;
-      shared = left (SharesAtMost 0 l) _ (ended_book l) l _ e.book (record { shared = omega arith; bookings = refl }) (no_call 0 l);
+      shared = left (SharesAtMost 0 l) _ (ended_book l) l _ e.book
+          (record { shared = omega arith; bookings = refl }) (no_call 0 l);
     }

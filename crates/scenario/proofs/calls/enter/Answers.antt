@@ -11,6 +11,8 @@ returns c =
     let l = c.args.ledger.now.book in
     let e = c.enter.ensures.became [] in
     record {
-      running = left (λ (b : Book). b.phase ≡ l.phase) _ (accepted_entry l [] c.args.trader c.args.litres).book l _ e.book refl refl;
-      shared = left (SharesAtMost 0 l) _ (accepted_entry l [] c.args.trader c.args.litres).book l _ e.book (record { shared = omega arith; bookings = refl }) (no_call 0 l);
+      running = left (λ (b : Book). b.phase ≡ l.phase) _
+          (accepted_entry l [] c.args.trader c.args.litres).book l _ e.book refl refl;
+      shared = left (SharesAtMost 0 l) _ (accepted_entry l [] c.args.trader c.args.litres).book l _
+          e.book (record { shared = omega arith; bookings = refl }) (no_call 0 l);
     }

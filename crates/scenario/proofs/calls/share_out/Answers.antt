@@ -12,5 +12,6 @@ returns g c =
     let e = c.share_out.ensures.became.became in
     record {
       refused = handed (λ _ _. Unit {0}) _ c.args.day _ _ l _ _ e.answer e.book tt;
-      shared = left (SharesAtMost 1 l) _ (shared_book l c.args.sheet.now _) l _ e.book (record { shared = omega arith; bookings = refl }) (no_call 1 l);
+      shared = left (SharesAtMost 1 l) _ (shared_book l c.args.sheet.now _) l _ e.book
+          (record { shared = omega arith; bookings = refl }) (no_call 1 l);
     }

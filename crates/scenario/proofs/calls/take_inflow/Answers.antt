@@ -15,7 +15,10 @@ returns c =
     let l = c.args.ledger.now.book in
     let e = c.take_inflow.ensures.became [] in
     record {
-      running = accepted_day (λ (b : Book) (day : MeasuredDay). IsRunning b (MeasuredToken day)) _ c.args.day _ _ l _ _ e.answer e.book (eq-eqb _ _ refl);
+      running = accepted_day (λ (b : Book) (day : MeasuredDay). IsRunning b (MeasuredToken day)) _
+          c.args.day _ _ l _ _ e.answer e.book (eq-eqb _ _ refl);
       refused = handed (λ _ _. Unit {0}) _ c.args.day _ _ l _ _ e.answer e.book tt;
-      shared = left (SharesAtMost 0 l) _ (accepted_measurement l [] c.args.day c.args.inflow c.args.rate).book l _ e.book (record { shared = omega arith; bookings = refl }) (no_call 0 l);
+      shared = left (SharesAtMost 0 l) _ (accepted_measurement l [] c.args.day c.args.inflow
+          c.args.rate).book l _ e.book (record { shared = omega arith; bookings = refl })
+          (no_call 0 l);
     }

@@ -8,10 +8,12 @@ use Rattle.scenario.proofs.day.end.Goals as goal
 
 pub unwrap-requires : goal.unwrap-requires
 unwrap-requires g c =
-    taken _ c.args.day tt _ (no_ground c.args.ledger.now.book (g.D.Day.token c.args.day) c.requires) (c.abandon_on.ensures []).answer
+    taken _ c.args.day tt _ (no_ground c.args.ledger.now.book (g.D.Day.token c.args.day) c.requires)
+    (c.abandon_on.ensures []).answer
 
 pub returns : goal.returns
 returns g c =
     let l = c.args.ledger.now.book in
     (c.abandon_on.ensures []).book
-    ∙ ap (λ (o : Option Refusal). unless o (ended_book l) l) (no_ground l (g.D.Day.token c.args.day) c.requires)
+    ∙ ap (λ (o : Option Refusal). unless o (ended_book l) l)
+    (no_ground l (g.D.Day.token c.args.day) c.requires)

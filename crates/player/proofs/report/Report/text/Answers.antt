@@ -1,9 +1,13 @@
 use Rattle.std.proofs.Common.{[], ◌∷◌, refl}
 use Rattle.player.specs.Printed.{separator}
-use Rattle.player.proofs.Adding.{both, grown}
+use Rattle.player.proofs.Adding.{adds_both, adds_extension}
 use Rattle.player.proofs.report.Report.text.Goals as goal
 
 pub returns : goal.returns
 returns c =
-    both c.extend_from_slice.result c.args.self.now c.separate.new.self _ (separator c.args.self.now.csv ∷ []) (λ _. c.args.text.now) c.in_ok-separate.ensures
-    (grown c.extend_from_slice.result c.separate.new.self _ c.args.text.now c.extend_from_slice.ensures.items refl refl)
+    let old = c.args.self.now in
+    let apart = c.separate.new.self in
+    let added = c.extend_from_slice.ensures.items in
+    adds_both c.extend_from_slice.result old apart _ (separator old.csv ∷ [])
+    (λ _. c.args.text.now) c.in_ok-separate.ensures
+    (adds_extension c.extend_from_slice.result apart _ c.args.text.now added refl refl)

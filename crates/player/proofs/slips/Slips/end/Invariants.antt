@@ -1,10 +1,10 @@
 use Rattle.std.proofs.Common.{◌≤◌, All, vec_len}
-use Rattle.player.specs.Slips.{Made}
+use Rattle.player.specs.Slips.{IsLedgerSlip}
 use Rattle.player.proofs.slips.Slips.end.Given as goal
 
 abbrev pub invariant-loop-slip : goal.invariant-loop-slip
 invariant-loop-slip l = record {
-  made : All Made l.open.items;
+  made : All IsLedgerSlip l.open.items;
   few : vec_len l.open ≤ vec_len l.initial.open;
 }
 

@@ -1,9 +1,0 @@
-use Rattle.std.proofs.Common.{arith}
-use Rattle.ledger.proofs.HandedBack.{taken}
-use Rattle.ledger.proofs.Withdrawals.{withdrawn}
-use Rattle.ledger_tests.proofs.readings.slips.end.Goals as goal
-
-pub unwrap-requires : goal.unwrap-requires
-unwrap-requires c =
-    let l = c.args.ledger.now in
-    taken _ c.args.slip tt _ (withdrawn 4096 l.book _ c.args.slip l.sound.points (omega arith) c.number.ensures c.requires.0 c.requires.1) c.withdraw.ensures.became.answer
