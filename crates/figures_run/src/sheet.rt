@@ -1,6 +1,5 @@
-//! A sheet of numbers, as text: numbers apart by blanks and lines, and `#` before a comment. Read
-//! here, and not by the journal's reader: this program is a second witness beside the player, and a
-//! fault in that reader is not to hide in both.
+//! A sheet of numbers, as text: numbers apart by blanks and lines, and `#` before a comment. This
+//! program has a reader of its own, so that a fault in the journal's cannot hide in both.
 use anyhow::anyhow;
 use std::alloc::Global;
 

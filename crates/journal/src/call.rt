@@ -55,7 +55,7 @@ pub enum Call<'a> {
         litres_per_unit: u32,
         /// What the dial shows, in units.
         reading: u32,
-        /// In millionths.
+        /// Litres a day at a day factor of one.
         scale_factor: u32,
     },
     /// Opens a day.

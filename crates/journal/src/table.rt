@@ -9,8 +9,7 @@ use std::fmt;
 /// A way in which a call is written.
 #[derive(Clone, Copy, Debug)]
 pub struct Form {
-    /// The call's words, with capitals where the journal's own words stand, as docs/JOURNAL.md has
-    /// them.
+    /// The call's word, and in capitals what the journal puts in that place (docs/JOURNAL.md).
     pub text: &'static str,
     /// What `--help` adds.
     pub note: Option<&'static str>,

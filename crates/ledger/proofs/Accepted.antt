@@ -7,7 +7,7 @@ use Rattle.profiles.specs.Asked.{is_in_range}
 use Rattle.profiles.specs.declared.weather.Weather.{Weather}
 use Rattle.ledger.specs.declared.book.Book.{Book}
 use Rattle.ledger.specs.declared.day.OpenDay.{OpenDay}
-use Rattle.ledger.specs.declared.day.MeasuredDay.{MeasuredDay}
+use Rattle.ledger.specs.declared.measured.MeasuredDay.{MeasuredDay}
 use Rattle.rows.specs.declared.point.Particulars.{Particulars}
 use Rattle.rows.specs.declared.point.Point.{Point}
 use Rattle.rows.specs.Limits.{max_traders, max_points}
@@ -16,7 +16,7 @@ use Rattle.ledger.specs.Grounds.{unless}
 use Rattle.rows.specs.Rows.{sheet_fits, particulars_fit, may_share, is_free, is_served}
 use Rattle.ledger.specs.Accounts.{metered_sum}
 use Rattle.ledger.specs.Days.{trader_admission_fault, point_admission_fault, opening_fault, entry_fault, loss_of, measurement_fault}
-use Rattle.ledger.specs.Sharing.{ShareOutInputs, share_out_grounds, first_grounds, has_no_weight, share_out_fault}
+use Rattle.ledger.specs.Sharing.{ShareOutInputs, early_fault_of, early_fault, has_no_weight, share_out_fault}
 use Rattle.ledger.proofs.Grounds.{some_none, no_ground}
 use Rattle.std.specs.List.{list_all}
 use Rattle.ledger.specs.Tokens.{is_idle, is_open, is_measured}
@@ -114,7 +114,7 @@ pub record Sharable (l : Book) (day : MeasuredDay) (s : List Point) (segments : 
   pub served : list_all (is_served segments) (take l.counts.points s) ≡ true
 
 pub sharable : (l : Book) (day : MeasuredDay) (s : List Point) (segments uses shares : ℕ) →
-    share_out_grounds l s day segments uses shares ≡ None → Sharable l day s segments
+    early_fault_of l s day segments uses shares ≡ None → Sharable l day s segments
 sharable l day s segments uses shares e =
     let a = no_ground _ _ _ e in
     let b = no_ground _ _ _ a.1 in
@@ -141,5 +141,5 @@ pub shares_out : (l : Book) (s : List Point) (day : MeasuredDay) (m : ShareOutIn
     share_out_fault l s day m ≡ None →
     Sharable l day s m.segments × (has_no_weight l s m.tells ≡ false)
 shares_out l s day m e =
-    let both = neither (first_grounds l s day m) (has_no_weight l s m.tells) NoWeight e in
+    let both = neither (early_fault l s day m) (has_no_weight l s m.tells) NoWeight e in
     (sharable l day s m.segments (length m.sheets.uses) (length m.sheets.shares) both.0, both.1)

@@ -9,14 +9,14 @@ use Rattle.shares.specs.Fair.{fair}
 use Rattle.ledger.specs.declared.book.Book.{Book}
 use Rattle.ledger.specs.declared.book.Trader.{Trader}
 use Rattle.ledger.specs.declared.day.OpenDay.{OpenDay}
-use Rattle.ledger.specs.declared.day.MeasuredDay.{MeasuredDay}
+use Rattle.ledger.specs.declared.measured.MeasuredDay.{MeasuredDay}
 use Rattle.ledger.specs.declared.day.Phase.{Phase}
 use Rattle.ledger.specs.declared.day.Phase.TheVariants.{Idle, Open, Measured}
 use Rattle.rows.specs.declared.point.Particulars.{Particulars}
 use Rattle.rows.specs.declared.point.Point.{Point}
 use Rattle.rows.specs.Limits.{max_traders}
 use Rattle.ledger.specs.Limits.{max_litres, max_shared, max_opened, last_day}
-use Rattle.ledger.specs.Accounts.{no_trader, account_at, metered_at, metered_sum, new_book, unmetered_trader, settled_trader, with_shares, account_limit, day_adds_up, running_days, IsSound, CanSettle}
+use Rattle.ledger.specs.Accounts.{no_trader, account_at, metered_at, metered_sum, new_book, unmetered_trader, settled_trader, with_shares, account_limit, day_figures_fit, running_days, IsSound, CanSettle}
 use Rattle.ledger.specs.Days.{trader_admission_fault, trader_admission, point_admission_fault, point_admission, opening_fault, opening, entry_fault, metered_entry, loss_of, quantity_of, measurement_fault, measurement, ended_book, abandonment_fault, abandonment}
 use Rattle.ledger.specs.Sharing.{ShareOutInputs, day_quantity, day_loss, day_consumptions, day_shares, share_out_fault, shared_book, share_out}
 use Rattle.ledger.proofs.Grounds.{by_unless}
@@ -126,8 +126,8 @@ open_sound l s weather h =
 -- Litres entered.
 
 -- an open day's figures do not hang on what was metered
-open_holds : (ph : Phase) (k m m' next : ℕ) → is_open ph k ≡ true → day_adds_up ph m next ≡ true →
-    day_adds_up ph m' next ≡ true
+open_holds : (ph : Phase) (k m m' next : ℕ) → is_open ph k ≡ true → day_figures_fit ph m next ≡ true →
+    day_figures_fit ph m' next ≡ true
 open_holds Idle k m m' next e h = absurd (false≢true e)
 open_holds (Open n w) k m m' next e h = h
 open_holds (Measured n w g x q) k m m' next e h = absurd (false≢true e)
@@ -164,7 +164,7 @@ enter_sound l s day t litres h =
 
 -- an open day lies in the calendar, and is to be ended
 pub open_calendar : (ph : Phase) (k m next : ℕ) → is_open ph k ≡ true →
-    day_adds_up ph m next ≡ true → leb next last_day ≡ true
+    day_figures_fit ph m next ≡ true → leb next last_day ≡ true
 open_calendar Idle k m next e h = absurd (false≢true e)
 open_calendar (Open n w) k m next e h = h
 open_calendar (Measured n w g x q) k m next e h = absurd (false≢true e)
@@ -227,7 +227,7 @@ idle_sound f z ts l places e i traders points opened shared readings bookings lo
       traders = traders;
       points = points;
       metered = omega arith;
-      day = ap (λ (ph : Phase). day_adds_up ph (metered_sum l.traders) l.next_day) i
+      day = ap (λ (ph : Phase). day_figures_fit ph (metered_sum l.traders) l.next_day) i
           ∙ eq-eqb _ 0 none;
       opened = opened;
       shared = omega arith;
@@ -272,7 +272,7 @@ pub record DayIs (ph : Phase) (m next : ℕ) : Type 0 where
   pub due : running_days ph ≡ 1
 
 pub measured_is : (ph : Phase) (k m next : ℕ) → is_measured ph k ≡ true →
-    day_adds_up ph m next ≡ true → DayIs ph m next
+    day_figures_fit ph m next ≡ true → DayIs ph m next
 measured_is Idle k m next e h = absurd (false≢true e)
 measured_is (Open n w) k m next e h = absurd (false≢true e)
 measured_is (Measured n w g x q) k m next e h =

@@ -7,7 +7,7 @@ use Rattle.ledger.specs.declared.book.Counts.{Counts}
 use Rattle.ledger.specs.declared.book.Trader.{Trader}
 use Rattle.rows.specs.declared.point.Point.{Point}
 use Rattle.ledger.specs.declared.slip.Slip.{Slip}
-use Rattle.ledger.specs.Accounts.{account_at, metered_at, with_credit, account_limit, day_adds_up, IsSound}
+use Rattle.ledger.specs.Accounts.{account_at, metered_at, with_credit, account_limit, day_figures_fit, IsSound}
 use Rattle.rows.specs.Limits.{max_correction}
 use Rattle.rows.specs.Bookings.{kept_correction}
 use Rattle.ledger.specs.Readings.{reading_fault, reading_at, booked_book, booking_fault, booking, hand_over_fault, hand_over, withdrawal_fault, withdrawal}
@@ -64,7 +64,7 @@ booked_sound l p h fits left =
       traders = h.traders;
       points = h.points;
       metered = let most = h.metered in omega arith;
-      day = subst (λ (m : ℕ). day_adds_up l.phase m l.next_day ≡ true) (sym same) h.day;
+      day = subst (λ (m : ℕ). day_figures_fit l.phase m l.next_day ≡ true) (sym same) h.day;
       opened = h.opened;
       shared = h.shared;
       readings = h.readings;

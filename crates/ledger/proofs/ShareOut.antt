@@ -12,16 +12,16 @@ use Rattle.profiles.specs.declared.factors.Factors.{Factors}
 use Rattle.profiles.specs.Laws.{factors_of, Tells}
 use Rattle.ledger.specs.declared.book.Book.{Book}
 use Rattle.ledger.specs.declared.book.Trader.{Trader}
-use Rattle.ledger.specs.declared.day.MeasuredDay.{MeasuredDay}
+use Rattle.ledger.specs.declared.measured.MeasuredDay.{MeasuredDay}
 use Rattle.ledger.specs.declared.day.Phase.{Phase}
 use Rattle.ledger.specs.declared.day.Phase.TheVariants.{Idle, Open, Measured}
 use Rattle.rows.specs.declared.point.Point.{Point}
-use Rattle.ledger.specs.Accounts.{IsSound, CanSettle, with_shares, with_credit, settled_trader, day_adds_up, running_days, account_limit}
+use Rattle.ledger.specs.Accounts.{IsSound, CanSettle, with_shares, with_credit, settled_trader, day_figures_fit, running_days, account_limit}
 use Rattle.ledger.specs.Grounds.{first_ground, unless}
 use Rattle.rows.specs.Limits.{max_traders}
 use Rattle.ledger.specs.Limits.{max_litres}
 use Rattle.rows.specs.Rows.{IsShareable, row_at, no_row, sheet_fits, may_share, is_free, is_served, factors_at, profile_consumption, profile_consumptions, shared_row, shared_rows}
-use Rattle.ledger.specs.Sharing.{ShareOutInputs, SharesOut, IsWeighable, CanCredit, factors_on, day_quantity, day_loss, day_consumptions, day_shares, share_out_grounds, first_grounds, has_no_weight, share_out_fault, shared_book, accepted_share_out, work_sheets_after}
+use Rattle.ledger.specs.Sharing.{ShareOutInputs, SharesOut, IsWeighable, CanCredit, factors_on, day_quantity, day_loss, day_consumptions, day_shares, early_fault_of, early_fault, has_no_weight, share_out_fault, shared_book, accepted_share_out, work_sheets_after}
 use Rattle.ledger.proofs.Accepted.{sharable}
 use Rattle.ledger.proofs.Becoming.{accepted, turned_down}
 use Rattle.ledger.proofs.Crediting.{settling}
@@ -96,7 +96,7 @@ none_left (x ∷ xs) e =
     let b : sum xs ≡ 0 = omega arith in
     ap (λ (y : ℕ). y ∷ xs) a ∙ ap (λ u. 0 ∷ u) (none_left xs b)
 
-pub quantity_small : (ph : Phase) (m today : ℕ) → day_adds_up ph m today ≡ true →
+pub quantity_small : (ph : Phase) (m today : ℕ) → day_figures_fit ph m today ≡ true →
     day_quantity ph ≤ max_litres
 quantity_small Idle m today e = omega arith
 quantity_small (Open n w) m today e = omega arith
@@ -110,7 +110,7 @@ measured_pending (Measured n w g x q) k e = refl
 
 -- what is known once the first grounds are passed
 pub passed : (l : Book) (s : List Point) (day : MeasuredDay) (segments uses shares : ℕ) →
-    share_out_grounds l s day segments uses shares ≡ None → IsWeighable l s uses
+    early_fault_of l s day segments uses shares ≡ None → IsWeighable l s uses
 passed l s day segments uses shares e =
     record {
       room = grind (arith, nat_tests);
@@ -120,11 +120,11 @@ passed l s day segments uses shares e =
     }
 
 pub passed_room : (l : Book) (s : List Point) (day : MeasuredDay) (segments uses shares : ℕ) →
-    share_out_grounds l s day segments uses shares ≡ None → l.counts.points ≤ shares
+    early_fault_of l s day segments uses shares ≡ None → l.counts.points ≤ shares
 passed_room l s day segments uses shares e = grind (arith, nat_tests)
 
 pub passed_running : (l : Book) (s : List Point) (day : MeasuredDay) (segments uses shares : ℕ) →
-    share_out_grounds l s day segments uses shares ≡ None → running_days l.phase ≡ 1
+    early_fault_of l s day segments uses shares ≡ None → running_days l.phase ≡ 1
 passed_running l s day segments uses shares e = measured_pending l.phase day.number
     (sharable l day s segments uses shares e).running
 
@@ -170,7 +170,7 @@ module _ (l : Book) (s : List Point) (day : MeasuredDay) (rows : List Point)
     (f : free ≡ list_all is_free rows) (v : served ≡ list_all (is_served segments) rows)
     (u : length rows ≤ uses) (h : length rows ≤ shares) where
   -- the first that is met, of those that the tests are about
-  pub grounds_tested : share_out_grounds l s day segments uses shares
+  pub grounds_tested : early_fault_of l s day segments uses shares
       ≡ first_ground ((not may, ForeignSheet) ∷ (not (is_measured l.phase day.number), NotRunning) ∷
       (not free, SlipOpenAtShareOut) ∷ (not served, SegmentNotServed) ∷ [])
   grounds_tested =
@@ -187,7 +187,7 @@ module _ (l : Book) (s : List Point) (day : MeasuredDay) (rows : List Point)
 -- Closing the day, by a rule and the weights in the first places of a work sheet.
 
 -- a running day's figures, with what was metered, are no more than a day can bring
-day_small : (ph : Phase) (m today : ℕ) → day_adds_up ph m today ≡ true → m ≤ max_litres →
+day_small : (ph : Phase) (m today : ℕ) → day_figures_fit ph m today ≡ true → m ≤ max_litres →
     running_days ph ≡ 1 → day_quantity ph + day_loss ph + m ≤ max_litres
 day_small Idle m today e h p = omega arith
 day_small (Open n w) m today e h p = omega arith
@@ -314,7 +314,7 @@ module _ (l : Book) (s : List Point) (rule : Rule) (law : IsShareRule rule) (so 
 
 -- the last ground is met or not, once the first are passed
 fault_by : (l : Book) (s : List Point) (day : MeasuredDay) (m : ShareOutInputs) (b : Bool) →
-    first_grounds l s day m ≡ None → has_no_weight l s m.tells ≡ b →
+    early_fault l s day m ≡ None → has_no_weight l s m.tells ≡ b →
     share_out_fault l s day m ≡ cond b (Some NoWeight) None
 fault_by l s day m b none weight =
     ap (λ (o : Option Refusal). unless o (cond (has_no_weight l s m.tells) (Some NoWeight) None) o)
@@ -323,7 +323,7 @@ fault_by l s day m b none weight =
 
 module _ (l : Book) (s : List Point) (day : MeasuredDay) (m : ShareOutInputs) where
   -- one of the first grounds is met
-  pub turned_away : (why : Refusal) → first_grounds l s day m ≡ Some why →
+  pub turned_away : (why : Refusal) → early_fault l s day m ≡ Some why →
       SharesOut l s day m (Err (record { why = why; given = day })) l s m.sheets
   turned_away why some =
       let fault : share_out_fault l s day m ≡ Some why =
@@ -340,7 +340,7 @@ module _ (l : Book) (s : List Point) (day : MeasuredDay) (m : ShareOutInputs) wh
             (day_shares l s m.tells m.rule ++ drop n m.sheets.shares) m.sheets.shares) fault);
       }
 
-  module _ (us' : List ℕ) (total quantity : ℕ) (none : first_grounds l s day m ≡ None)
+  module _ (us' : List ℕ) (total quantity : ℕ) (none : early_fault l s day m ≡ None)
       (e : us' ≡ day_consumptions l s m.tells ++ drop l.counts.points m.sheets.uses)
       (t : total ≡ sum (day_consumptions l s m.tells)) (q : quantity ≡ day_quantity l.phase) where
     weighable : IsWeighable l s (length m.sheets.uses)

@@ -81,10 +81,10 @@ account_limit c = c.shared * max_litres + c.bookings * max_correction
 
 -- the day's figures: between days nothing is metered; a running day lies in the calendar; a
 -- measured day's quantity, loss and metered litres are its inflow
-abbrev pub day_adds_up : Phase → ℕ → ℕ → Bool
-day_adds_up Idle metered next = metered == 0
-day_adds_up (Open n w) metered next = nat_le next last_day
-day_adds_up (Measured n w g x q) metered next =
+abbrev pub day_figures_fit : Phase → ℕ → ℕ → Bool
+day_figures_fit Idle metered next = metered == 0
+day_figures_fit (Open n w) metered next = nat_le next last_day
+day_figures_fit (Measured n w g x q) metered next =
     q + x + metered == g && (nat_le g max_litres && nat_le next last_day)
 
 -- days opened and not yet ended
@@ -98,7 +98,7 @@ pub record IsSound (l : Book) : Type 0 where
   pub traders : l.counts.traders ≤ max_traders
   pub points : l.counts.points ≤ max_points
   pub metered : metered_sum l.traders ≤ max_litres
-  pub day : day_adds_up l.phase (metered_sum l.traders) l.next_day ≡ true
+  pub day : day_figures_fit l.phase (metered_sum l.traders) l.next_day ≡ true
   pub opened : l.counts.opened ≤ max_opened
   pub shared : l.counts.shared + running_days l.phase ≤ max_shared
   pub readings : l.counts.readings ≤ max_readings

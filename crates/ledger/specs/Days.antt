@@ -13,7 +13,7 @@ use Rattle.rows.specs.Limits.{max_traders}
 use Rattle.rows.specs.Rows.{sheet_fits, particulars_fit, admitted_row, is_summable, open_sum_of}
 use Rattle.ledger.specs.declared.book.Book.{Book}
 use Rattle.ledger.specs.declared.day.OpenDay.{OpenDay}
-use Rattle.ledger.specs.declared.day.MeasuredDay.{MeasuredDay}
+use Rattle.ledger.specs.declared.measured.MeasuredDay.{MeasuredDay}
 use Rattle.ledger.specs.declared.day.Phase.TheVariants.{Idle, Open, Measured}
 use Rattle.ledger.specs.Accounts.{account_at, metered_at, metered_sum, with_metered, unmetered_trader}
 use Rattle.ledger.specs.Grounds.{first_ground, call_answer}
@@ -26,8 +26,8 @@ use Rattle.ledger.specs.Tokens.{DayToken, is_running, is_open, is_idle, weather_
 abbrev pub trader_admission_fault : Book → Option Refusal
 trader_admission_fault l = first_ground ((nat_le max_traders l.counts.traders, NoPlace) ∷ [])
 
-abbrev pub accepted_trader : Book → List Point → Outcome ℕ
-accepted_trader l s =
+abbrev pub accepted_trader_admission : Book → List Point → Outcome ℕ
+accepted_trader_admission l s =
     record {
       answer = l.counts.traders;
       book = record l { counts = record l.counts { traders = l.counts.traders + 1 } };
@@ -35,7 +35,7 @@ accepted_trader l s =
     }
 
 abbrev pub trader_admission : Book → List Point → Outcome (Result ℕ Refusal)
-trader_admission l s = call_outcome (trader_admission_fault l) l s (accepted_trader l s)
+trader_admission l s = call_outcome (trader_admission_fault l) l s (accepted_trader_admission l s)
 
 -- Admitting a point.
 
@@ -48,8 +48,8 @@ point_admission_fault l s given =
     ∷ (nat_le (length s) l.counts.points, NoPlace)
     ∷ [])
 
-abbrev pub accepted_point : Book → List Point → Given → Outcome ℕ
-accepted_point l s given =
+abbrev pub accepted_point_admission : Book → List Point → Given → Outcome ℕ
+accepted_point_admission l s given =
     record {
       answer = l.counts.points;
       book = record l { counts = record l.counts { points = l.counts.points + 1 } };
@@ -58,7 +58,7 @@ accepted_point l s given =
 
 abbrev pub point_admission : Book → List Point → Given → Outcome (Result ℕ Refusal)
 point_admission l s given =
-    call_outcome (point_admission_fault l s given) l s (accepted_point l s given)
+    call_outcome (point_admission_fault l s given) l s (accepted_point_admission l s given)
 
 -- Opening a day.
 

@@ -10,7 +10,7 @@ use Rattle.rows.specs.declared.point.Particulars.{Particulars}
 use Rattle.rows.specs.declared.point.Point.{Point}
 use Rattle.ledger.specs.declared.book.Book.{Book}
 use Rattle.ledger.specs.declared.day.OpenDay.{OpenDay}
-use Rattle.ledger.specs.declared.day.MeasuredDay.{MeasuredDay}
+use Rattle.ledger.specs.declared.measured.MeasuredDay.{MeasuredDay}
 use Rattle.ledger.specs.declared.day.SharedOut.{SharedOut}
 use Rattle.ledger.specs.declared.slip.Slip.{Slip}
 use Rattle.ledger.specs.Accounts.{new_book}
@@ -44,7 +44,7 @@ pub data Event : Type 0 where
 abbrev pub History : Type 0
 History = List Event
 
--- a share-out by a lawful profile and a lawful share rule
+-- a share-out by a profile that gives factors, whatever is asked, and by a lawful share rule
 pub record LawfulShareOut (l : Book) (s : List Point) (day : MeasuredDay) (m : ShareOutInputs)
     (r : Result SharedOut (Refused MeasuredDay)) (l' : Book) (s' : List Point) (w : WorkSheets)
     : Type 0 where

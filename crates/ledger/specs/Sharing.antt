@@ -13,7 +13,7 @@ use Rattle.rows.specs.Rows.{IsShareable, row_at, sheet_fits, may_share, is_free,
 use Rattle.rows.specs.Within.{IsWithin}
 use Rattle.ledger.specs.declared.book.Book.{Book}
 use Rattle.ledger.specs.declared.book.Trader.{Trader}
-use Rattle.ledger.specs.declared.day.MeasuredDay.{MeasuredDay}
+use Rattle.ledger.specs.declared.measured.MeasuredDay.{MeasuredDay}
 use Rattle.ledger.specs.declared.day.Phase.{Phase}
 use Rattle.ledger.specs.declared.day.Phase.TheVariants.{Idle, Measured}
 use Rattle.ledger.specs.declared.day.SharedOut.{SharedOut}
@@ -69,8 +69,8 @@ day_shares l s tells rule = rule (day_quantity l.phase) (day_consumptions l s te
 -- When it is refused.
 
 -- the grounds that lie in what was handed in or in how things stand, but for the last
-abbrev pub share_out_grounds : Book → List Point → MeasuredDay → ℕ → ℕ → ℕ → Option Refusal
-share_out_grounds l s day segments uses shares =
+abbrev pub early_fault_of : Book → List Point → MeasuredDay → ℕ → ℕ → ℕ → Option Refusal
+early_fault_of l s day segments uses shares =
     first_ground
     ((not (sheet_fits l.counts.points s), PointSheetLength)
     ∷ (nat_lt uses l.counts.points || nat_lt shares l.counts.points, WorkSheetLength)
@@ -80,9 +80,9 @@ share_out_grounds l s day segments uses shares =
     ∷ (not (list_all (is_served segments) (take l.counts.points s)), SegmentNotServed)
     ∷ [])
 
-abbrev pub first_grounds : Book → List Point → MeasuredDay → ShareOutInputs → Option Refusal
-first_grounds l s day m =
-    share_out_grounds l s day m.segments (length m.sheets.uses) (length m.sheets.shares)
+abbrev pub early_fault : Book → List Point → MeasuredDay → ShareOutInputs → Option Refusal
+early_fault l s day m =
+    early_fault_of l s day m.segments (length m.sheets.uses) (length m.sheets.shares)
 
 -- there is something to share and no point to share it by
 abbrev pub has_no_weight : Book → List Point → Tells → Bool
@@ -91,7 +91,7 @@ has_no_weight l s tells =
 
 abbrev pub share_out_fault : Book → List Point → MeasuredDay → ShareOutInputs → Option Refusal
 share_out_fault l s day m =
-    let first = first_grounds l s day m in
+    let first = early_fault l s day m in
     unless first (cond (has_no_weight l s m.tells) (Some NoWeight) None) first
 
 -- Its outcome.
@@ -139,7 +139,7 @@ work_sheets_after l s day m =
     let consumptions = day_consumptions l s m.tells in
     let uses = cond (has_no_weight l s m.tells) (replicate n 0) consumptions in
     record {
-      uses = unless (first_grounds l s day m) (uses ++ drop n m.sheets.uses) m.sheets.uses;
+      uses = unless (early_fault l s day m) (uses ++ drop n m.sheets.uses) m.sheets.uses;
       shares =
           unless (share_out_fault l s day m)
           (day_shares l s m.tells m.rule ++ drop n m.sheets.shares)

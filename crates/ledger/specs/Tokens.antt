@@ -3,7 +3,7 @@ use Rattle.std.specs.Prelude.{ℕ, Bool, true, false, pos, ◌==◌, Ok, Err, Re
 use Rattle.refusals.specs.declared.Refused.{Refused}
 use Rattle.profiles.specs.declared.weather.Weather.{Weather}
 use Rattle.ledger.specs.declared.day.OpenDay.{OpenDay}
-use Rattle.ledger.specs.declared.day.MeasuredDay.{MeasuredDay}
+use Rattle.ledger.specs.declared.measured.MeasuredDay.{MeasuredDay}
 use Rattle.ledger.specs.declared.day.Phase.{Phase}
 use Rattle.ledger.specs.declared.day.Phase.TheVariants.{Idle, Open, Measured}
 
@@ -38,7 +38,7 @@ weather_of (Open n w) = w
 weather_of (Measured n w g x q) = w
 
 -- the answer of a call on a day, with the day that a refusal hands back as a token of any kind
-abbrev pub token_handed_back : {A T : Type 0} → (T → DayToken) → Result A (Refused T) →
+abbrev pub answer_with_day_token : {A T : Type 0} → (T → DayToken) → Result A (Refused T) →
     Result A (Refused DayToken)
-token_handed_back day (Ok x) = Ok x
-token_handed_back day (Err e) = Err (record { why = e.why; given = day e.given })
+answer_with_day_token day (Ok x) = Ok x
+answer_with_day_token day (Err e) = Err (record { why = e.why; given = day e.given })

@@ -1,7 +1,7 @@
 //! The running gas day: its tokens and its phase.
 ghost use Rattle.std.specs.Prelude.{◌≡◌};
 ghost use Rattle.ledger.specs.Sharing.{day_quantity, day_loss};
-ghost use Rattle.ledger.specs.Tokens.{DayToken, OpenToken, MeasuredToken, is_idle, is_running, weather_of};
+ghost use Rattle.ledger.specs.Tokens.{DayToken, OpenToken, is_idle, is_running, weather_of};
 
 use profiles::Weather;
 
@@ -11,28 +11,12 @@ pub struct OpenDay {
     pub(crate) number: u32,
 }
 
-/// The right to share out the running day, whose inflow was taken.
-pub struct MeasuredDay {
-    pub(crate) number: u32,
-}
-
 impl OpenDay {
     /// The day's number, by openings from 1.
     pub fn number(&self) -> u32
         ensures { result ≡ self.now.number }
     {
-        let OpenDay { number } = self;
-        *number
-    }
-}
-
-impl MeasuredDay {
-    /// The day's number, by openings from 1.
-    pub fn number(&self) -> u32
-        ensures { result ≡ self.now.number }
-    {
-        let MeasuredDay { number } = self;
-        *number
+        self.number
     }
 }
 
@@ -59,18 +43,6 @@ impl Token for OpenDay {
 
     fn end(self) {
         let OpenDay { number: _ } = self;
-    }
-}
-
-impl Token for MeasuredDay {
-    ghost token = { MeasuredToken };
-
-    fn is_running(&self, phase: Phase) -> bool {
-        matches!(phase, Phase::Measured { number, .. } if number == self.number)
-    }
-
-    fn end(self) {
-        let MeasuredDay { number: _ } = self;
     }
 }
 

@@ -6,12 +6,14 @@ mod book;
 mod day;
 mod ledger;
 mod limits;
+mod measured;
 mod slip;
 
 pub use book::Counts;
-pub use day::{MeasuredDay, OpenDay, SharedOut};
+pub use day::{OpenDay, SharedOut};
 pub use ledger::Ledger;
 pub use limits::{MAX_LITRES, MAX_RATE};
+pub use measured::MeasuredDay;
 pub use refusals::Refused;
 pub use rows::{MAX_POINTS, Particulars, Point};
 pub use slip::Slip;

@@ -9,7 +9,7 @@ use Rattle.profiles.specs.declared.weather.Weather.{Weather}
 use Rattle.rows.specs.declared.point.Point.{Point}
 use Rattle.rows.specs.Limits.{max_points}
 use Rattle.ledger.specs.declared.book.Book.{Book}
-use Rattle.ledger.specs.declared.day.MeasuredDay.{MeasuredDay}
+use Rattle.ledger.specs.declared.measured.MeasuredDay.{MeasuredDay}
 use Rattle.ledger.specs.declared.day.OpenDay.{OpenDay}
 use Rattle.ledger.specs.declared.day.SharedOut.{SharedOut}
 use Rattle.ledger.specs.Accounts.{metered_at}
@@ -26,28 +26,29 @@ abbrev pub map_answer : {A B : Type 0} → (A → B) → Outcome A → Outcome B
 map_answer f o = record { answer = f o.answer; book = o.book; rows = o.rows }
 
 -- the answer of a call, with f of what it gives
-abbrev pub map_given : {A B : Type 0} → (A → B) → Result A Refusal → Result B Refusal
-map_given f r = result_map_both f (λ (why : Refusal). why) r
+abbrev pub map_ok : {A B : Type 0} → (A → B) → Result A Refusal → Result B Refusal
+map_ok f r = result_map_both f (λ (why : Refusal). why) r
 
 -- the answer of a call that hands its token back, without the token
-abbrev pub map_kept : {A B T : Type 0} → (A → B) → Result A (Refused T) → Result B Refusal
-map_kept {T = T} f r = result_map_both f (λ (back : Refused T). back.why) r
+abbrev pub map_ok_without_token : {A B T : Type 0} → (A → B) → Result A (Refused T) →
+    Result B Refusal
+map_ok_without_token {T = T} f r = result_map_both f (λ (back : Refused T). back.why) r
 
 -- its answer is the day's number
 abbrev pub day_opening : Book → List Point → Weather → Outcome (Result ℕ Refusal)
 day_opening l s weather =
-    map_answer (map_given (λ (day : OpenDay). day.number)) (opening l s weather)
+    map_answer (map_ok (λ (day : OpenDay). day.number)) (opening l s weather)
 
 -- its answer is the trader's metered sum of the day
 abbrev pub day_entry : Book → List Point → RunningDay → ℕ → ℕ → Outcome (Result ℕ Refusal)
 day_entry l s running t litres =
     let entry = metered_entry l s (open_day running) t litres in
-    map_answer (map_given (λ (x : Unit). metered_at entry.book.traders t)) entry
+    map_answer (map_ok (λ (x : Unit). metered_at entry.book.traders t)) entry
 
 -- its answer is the day's number
 abbrev pub day_measurement : Book → List Point → RunningDay → ℕ → ℕ → Outcome (Result ℕ Refusal)
 day_measurement l s running inflow rate =
-    map_answer (map_kept (λ (day : MeasuredDay). day.number))
+    map_answer (map_ok_without_token (λ (day : MeasuredDay). day.number))
     (measurement l s (open_day running) inflow rate)
 
 -- the ledger with no day running: the day that runs is abandoned
@@ -67,7 +68,7 @@ unmeasured_ground s = cond (nat_lt max_points (length s)) PointSheetLength NotRu
 abbrev pub day_share_out : Book → List Point → RunningDay → ShareOutInputs →
     Outcome (Result SharedOut Refusal)
 day_share_out l s (Measured day) m =
-    map_answer (map_kept (λ (out : SharedOut). out)) (share_out l s day m)
+    map_answer (map_ok_without_token (λ (out : SharedOut). out)) (share_out l s day m)
 day_share_out l s running m = record { answer = Err (unmeasured_ground s); book = l; rows = s }
 
 abbrev pub day_work_sheets : Book → List Point → RunningDay → ShareOutInputs → WorkSheets

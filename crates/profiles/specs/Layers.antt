@@ -21,13 +21,13 @@ abbrev pub scaled_factor : ℕ → ℕ → ℕ
 scaled_factor day number = min whole (day * number / whole)
 
 -- the same factors, but with the day factor scaled
-abbrev pub scaled_factors : ℕ → Factors → Factors
-scaled_factors number f = record f { day = scaled_factor f.day number }
+abbrev pub with_scaled_day : ℕ → Factors → Factors
+with_scaled_day number f = record f { day = scaled_factor f.day number }
 
 -- what a layer makes of the factors below it: only its own segment's day factor is scaled
 abbrev pub layer_factors : ℕ → List ℕ → ℕ → Weather → Factors → Factors
 layer_factors own numbers segment w f =
-    if segment == own then scaled_factors (slice_index numbers (place w.season w)) f else f
+    if segment == own then with_scaled_day (slice_index numbers (place w.season w)) f else f
 
 -- the meaning of a layer over that of the profile below it
 abbrev pub layer_tells : ℕ → List ℕ → Tells → Tells

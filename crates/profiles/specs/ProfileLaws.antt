@@ -9,7 +9,7 @@ use Rattle.profiles.specs.Asked.{is_asked, place}
 use Rattle.profiles.specs.Laws.{whole, factors_of, AreFactors, Tells, TellsFactors, TellsZeroOutside, factors_where_asked}
 use Rattle.profiles.specs.Even.{even_segments, even_tells}
 use Rattle.profiles.specs.Tables.{table_segments, table_tells}
-use Rattle.profiles.specs.Layers.{scaled_factor, scaled_factors, layer_factors, layer_tells}
+use Rattle.profiles.specs.Layers.{scaled_factor, with_scaled_day, layer_factors, layer_tells}
 
 -- one segment at least, and eight at most
 pub even_few : (1 ≤ even_segments) × (even_segments ≤ 8)
@@ -55,7 +55,7 @@ module _ (own : ℕ) (numbers : List ℕ) (below : Tells) where
   layer_tells_factors h segment w =
       let f = below segment w in
       let number = slice_index numbers (place w.season w) in
-      cond_both (eqb segment own) (scaled_factors number f) f AreFactors
+      cond_both (eqb segment own) (with_scaled_day number f) f AreFactors
       (λ _. ((h segment w).0, omega arith))
       (λ _. h segment w)
 

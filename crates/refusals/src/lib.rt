@@ -73,6 +73,8 @@ impl Refusal {
 // LLVM builds the program in seconds with `given` first, and in minutes with `why` first.
 #[derive(Drop)]
 pub struct Refused<T> {
+    /// What was handed in.
     pub given: T,
+    /// Why it was refused.
     pub why: Refusal,
 }

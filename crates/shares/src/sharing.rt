@@ -16,6 +16,7 @@ pub const MAX_WEIGHT: u64 = 2_000_000;
 pub struct Sharing<'a> {
     /// In litres.
     pub quantity: u64,
+    /// At most 4,096, each at most 2,000,000.
     pub weights: &'a [u64],
     /// The sum of the weights.
     pub total: u64,

@@ -6,7 +6,7 @@ use Rattle.ledger.specs.declared.day.OpenDay.{OpenDay}
 use Rattle.rows.specs.declared.point.Particulars.{Particulars}
 use Rattle.rows.specs.declared.point.Point.{Point}
 use Rattle.ledger.specs.Accounts.{new_book, IsSound}
-use Rattle.ledger.specs.Days.{trader_admission_fault, accepted_trader, trader_admission, point_admission_fault, accepted_point, point_admission, opening_fault, accepted_opening, opening, entry_fault, accepted_entry, metered_entry, measurement_fault, accepted_measurement, measurement, abandonment_fault, accepted_abandonment, abandonment}
+use Rattle.ledger.specs.Days.{trader_admission_fault, accepted_trader_admission, trader_admission, point_admission_fault, accepted_point_admission, point_admission, opening_fault, accepted_opening, opening, entry_fault, accepted_entry, metered_entry, measurement_fault, accepted_measurement, measurement, abandonment_fault, accepted_abandonment, abandonment}
 use Rattle.ledger.specs.Outcomes.{call_outcome, token_outcome}
 use Rattle.ledger.proofs.Accepted.{point_fits, day_opens, enters, takes_inflow}
 use Rattle.ledger.proofs.Grounds.{by_option}
@@ -42,7 +42,7 @@ module _ (c : List Settlement) (d : Day) (taken : ℕ → ℕ) (l : Book) (s : L
     (a : Agrees c d taken l s) where
   pub admit_agrees : let r = trader_admission l s in Agrees c d taken r.book r.rows
   admit_agrees =
-      by_option (λ o. let r = call_outcome o l s (accepted_trader l s) in
+      by_option (λ o. let r = call_outcome o l s (accepted_trader_admission l s) in
       Agrees c d taken r.book r.rows) (trader_admission_fault l)
       (λ e. record {
         today = a.today;
@@ -57,7 +57,7 @@ module _ (c : List Settlement) (d : Day) (taken : ℕ → ℕ) (l : Book) (s : L
       Agrees (unless_refused r.answer (Joined g ∷ c) c) d taken r.book r.rows
   point_agrees g =
       by_option
-      (λ o. let r = call_outcome o l s (accepted_point l s g) in
+      (λ o. let r = call_outcome o l s (accepted_point_admission l s g) in
       Agrees (unless_refused r.answer (Joined g ∷ c) c) d taken r.book r.rows)
       (point_admission_fault l s g)
       (λ e.

@@ -9,7 +9,7 @@ use Rattle.shares.specs.Laws.{Rule, IsShareRule}
 use Rattle.rows.specs.declared.point.Point.{Point}
 use Rattle.rows.specs.Rows.{row_at, shared_rows}
 use Rattle.ledger.specs.declared.book.Book.{Book}
-use Rattle.ledger.specs.declared.day.MeasuredDay.{MeasuredDay}
+use Rattle.ledger.specs.declared.measured.MeasuredDay.{MeasuredDay}
 use Rattle.ledger.specs.Accounts.{IsSound}
 use Rattle.ledger.specs.Grounds.{unless}
 use Rattle.ledger.specs.Outcomes.{token_outcome}

@@ -7,7 +7,7 @@ use Rattle.ledger.specs.declared.day.Phase.{Phase}
 use Rattle.ledger.specs.declared.day.Phase.TheVariants.{Idle, Open, Measured}
 use Rattle.profiles.specs.declared.weather.Weather.{Weather}
 use Rattle.ledger.specs.Limits.{max_litres}
-use Rattle.ledger.specs.Accounts.{metered_at, metered_sum, with_metered, day_adds_up}
+use Rattle.ledger.specs.Accounts.{metered_at, metered_sum, with_metered, day_figures_fit}
 use Rattle.ledger.specs.Days.{loss_of, quantity_of}
 use Rattle.ledger.specs.Sharing.{day_quantity, day_loss}
 use Rattle.ledger.proofs.Traders.{metered_le, metered_entered, metered_sum-entered}
@@ -42,13 +42,13 @@ Today Idle ts d = Unit {0}
 Today (Open n w) ts d = Begun w ts d
 Today (Measured n w g x q) ts d = Begun w ts d × Figures g x q d
 
-idle_none : (ph : Phase) (m next : ℕ) → is_idle ph ≡ true → day_adds_up ph m next ≡ true → m ≡ 0
+idle_none : (ph : Phase) (m next : ℕ) → is_idle ph ≡ true → day_figures_fit ph m next ≡ true → m ≡ 0
 idle_none Idle m next e h = eqb-true m 0 h
 idle_none (Open n w) m next e h = absurd (false≢true e)
 idle_none (Measured n w g x q) m next e h = absurd (false≢true e)
 
 pub today_opened : (ph : Phase) (ts : List Trader) (next n : ℕ) (w : Weather) → is_idle ph ≡ true →
-    day_adds_up ph (metered_sum ts) next ≡ true → Today (Open n w) ts (new_day w)
+    day_figures_fit ph (metered_sum ts) next ≡ true → Today (Open n w) ts (new_day w)
 today_opened ph ts next n w i h =
     let none = idle_none ph (metered_sum ts) next i h in
     record {
@@ -103,7 +103,7 @@ pub record Running (ph : Phase) (ts : List Trader) (d : Day) : Type 0 where
   pub small : day_quantity ph ≤ max_litres
 
 pub running : (ph : Phase) (k next : ℕ) (ts : List Trader) (d : Day) → is_measured ph k ≡ true →
-    day_adds_up ph (metered_sum ts) next ≡ true → Today ph ts d → Running ph ts d
+    day_figures_fit ph (metered_sum ts) next ≡ true → Today ph ts d → Running ph ts d
 running Idle k next ts d e h o = absurd (false≢true e)
 running (Open n w) k next ts d e h o = absurd (false≢true e)
 running (Measured n w g x q) k next ts d e h o =

@@ -6,11 +6,12 @@ ghost use Rattle.ledger.specs.Days.{opening_fault, opening, entry_fault, metered
 ghost use Rattle.ledger.specs.Grounds.{call_answer};
 ghost use Rattle.ledger.specs.History.{Step, Opened, Entered, InflowTaken, Abandoned};
 ghost use Rattle.ledger.specs.Outcomes.{Became};
-ghost use Rattle.ledger.specs.Tokens.{OpenToken, MeasuredToken, token_handed_back};
+ghost use Rattle.ledger.specs.Tokens.{OpenToken, MeasuredToken, answer_with_day_token};
 
 use super::Ledger;
-use crate::day::{MeasuredDay, OpenDay, Phase, Token};
+use crate::day::{OpenDay, Phase, Token};
 use crate::limits::{LAST_DAY, MAX_LITRES, MAX_OPENED, MAX_RATE, MAX_SHARED};
+use crate::measured::MeasuredDay;
 use profiles::Weather;
 use refusals::{Refusal, Refused};
 
@@ -133,7 +134,7 @@ impl Ledger {
     fn abandon<T: Token>(&mut self, day: T) -> Result<(), Refused<T>>
         ensures became { (s : List Row) →
             Became (abandonment self.old.book s (T.Token.token day) day) result self.new.book s }
-        ensures run { let returned = token_handed_back T.Token.token result in
+        ensures run { let returned = answer_with_day_token T.Token.token result in
             (s : List Row) →
             Step (Abandoned (T.Token.token day) returned) self.old.book s self.new.book s }
     {
@@ -152,7 +153,7 @@ impl Ledger {
     pub fn abandon_open(&mut self, day: OpenDay) -> Result<(), Refused<OpenDay>>
         ensures became { (s : List Row) →
             Became (abandonment self.old.book s (OpenToken day) day) result self.new.book s }
-        ensures run { let returned = token_handed_back OpenToken result in
+        ensures run { let returned = answer_with_day_token OpenToken result in
             (s : List Row) →
             Step (Abandoned (OpenToken day) returned) self.old.book s self.new.book s }
     {
@@ -163,7 +164,7 @@ impl Ledger {
     pub fn abandon_measured(&mut self, day: MeasuredDay) -> Result<(), Refused<MeasuredDay>>
         ensures became { (s : List Row) →
             Became (abandonment self.old.book s (MeasuredToken day) day) result self.new.book s }
-        ensures run { let returned = token_handed_back MeasuredToken result in
+        ensures run { let returned = answer_with_day_token MeasuredToken result in
             (s : List Row) →
             Step (Abandoned (MeasuredToken day) returned) self.old.book s self.new.book s }
     {

@@ -105,9 +105,9 @@ impl Ledger {
             Err(why) => Err(Refused { why, given: slip }),
             Ok(fit) => {
                 let Slip { number: _, point } = slip;
-                let by = self.book_row(&fit);
+                let correction = self.book_row(&fit);
                 sheet[point] = fit.booked(fit.row.trader);
-                Ok(by)
+                Ok(correction)
             }
         }
     }

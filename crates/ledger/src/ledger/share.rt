@@ -7,11 +7,12 @@ ghost use Rattle.ledger.specs.Accounts.{with_shares, running_days, settled_trade
 ghost use Rattle.ledger.specs.Grounds.{call_answer};
 ghost use Rattle.ledger.specs.History.{Step, Shared};
 ghost use Rattle.ledger.specs.Sharing.{CanCredit, IsWeighable, SharesOut, inputs_of, factors_on, day_quantity};
-ghost use Rattle.ledger.specs.Sharing.{day_consumptions, shared_book, share_out_grounds, work_sheets_of};
+ghost use Rattle.ledger.specs.Sharing.{day_consumptions, shared_book, early_fault_of, work_sheets_of};
 
 use super::Ledger;
 use crate::book::Trader;
-use crate::day::{MeasuredDay, Phase, SharedOut, Token};
+use crate::day::{Phase, SharedOut, Token};
+use crate::measured::MeasuredDay;
 use profiles::{Factors, Profile, Weather};
 use refusals::{Refusal, Refused};
 use rows::Point;
@@ -123,7 +124,7 @@ impl Ledger {
         shares: usize,
     ) -> Result<(), Refusal>
         ensures { let segments = P.Profile.SEGMENTS in
-            let first = share_out_grounds self.now.book sheet.now day.now segments uses shares in
+            let first = early_fault_of self.now.book sheet.now day.now segments uses shares in
             result ≡ call_answer first tt }
     {
         let rows = self.rows(sheet)?;

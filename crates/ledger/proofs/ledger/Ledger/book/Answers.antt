@@ -5,8 +5,8 @@ use Rattle.ledger.proofs.AcceptedReadings.{books}
 use Rattle.ledger.proofs.Booking.{booked_step}
 use Rattle.ledger.proofs.ledger.Ledger.book.Goals as goal
 
-pub book_row-by-requires-clause-owned : goal.book_row-by-requires-clause-owned
-book_row-by-requires-clause-owned c =
+pub book_row-correction-requires-clause-owned : goal.book_row-correction-requires-clause-owned
+book_row-correction-requires-clause-owned c =
     let l = c.args.self.now.book in
     let s = c.args.sheet.now in
     let slip = c.args.slip in
@@ -19,8 +19,8 @@ returns-in-Ok c =
     let s = c.args.sheet.now in
     let slip = c.args.slip in
     let k = c.in-Ok.ensures in
-    let b = c.book_row-by.ensures in
+    let b = c.book_row-correction.ensures in
     let e = booked_step l s slip (booking_fault l s slip) c.in-Ok.fit.row k.0 k.1
-    (λ (r : Point). r.trader) c.book_row-by.result c.book_row-by.new.self.book c.booked.result
+    (λ (r : Point). r.trader) c.book_row-correction.result c.book_row-correction.new.self.book c.booked.result
     (search rules) b.moved b.state c.booked.ensures in
     record { became = e; run = e }

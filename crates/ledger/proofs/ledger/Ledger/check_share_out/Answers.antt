@@ -3,7 +3,7 @@ use Rattle.std.specs.List.{list_all}
 use Rattle.refusals.specs.declared.Refusal.TheVariants.{ForeignSheet, NotRunning, SlipOpenAtShareOut, SegmentNotServed}
 use Rattle.rows.specs.Rows.{is_served}
 use Rattle.ledger.specs.Grounds.{first_ground}
-use Rattle.ledger.specs.Sharing.{share_out_grounds}
+use Rattle.ledger.specs.Sharing.{early_fault_of}
 use Rattle.ledger.specs.Tokens.{is_measured}
 use Rattle.ledger.proofs.ShareOut.{grounds_tested}
 use Rattle.ledger.proofs.ledger.Ledger.check_share_out.Given as given
@@ -12,7 +12,7 @@ use Rattle.ledger.proofs.ledger.Ledger.check_share_out.Goals.{After-test_rows-te
 
 -- once the rows are tested, the ground is the first that the tests give
 tested : (g : given.Over) (c : After-test_rows-tests g) →
-    share_out_grounds c.args.self.now.book c.args.sheet.now c.args.day.now g.P.Profile.SEGMENTS
+    early_fault_of c.args.self.now.book c.args.sheet.now c.args.day.now g.P.Profile.SEGMENTS
     c.args.uses c.args.shares ≡ first_ground ((not c.test_rows-tests.result.may_share, ForeignSheet)
     ∷ (not (is_measured c.args.self.now.book.phase c.args.day.now.number), NotRunning) ∷
     (not c.test_rows-tests.result.free, SlipOpenAtShareOut) ∷

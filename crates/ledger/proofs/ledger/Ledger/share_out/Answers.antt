@@ -1,6 +1,6 @@
 use Rattle.std.proofs.Common.{◌≡◌, false, ◌&&◌, eqb, ltb, length, None, sym, subst, ⊎_elim}
 use Rattle.std.proofs.lemmas.Bool.{and_right, and_left, le-ltb, ne_eqb}
-use Rattle.ledger.specs.Sharing.{IsWeighable, inputs_of, first_grounds}
+use Rattle.ledger.specs.Sharing.{IsWeighable, inputs_of, early_fault}
 use Rattle.ledger.proofs.Grounds.{refused_by, passed_by}
 use Rattle.ledger.proofs.ShareOut.{passed, passed_room, passed_running, turned_away, weightless, shared_out}
 use Rattle.ledger.proofs.ledger.Ledger.share_out.Given as given
@@ -8,10 +8,10 @@ use Rattle.ledger.proofs.ledger.Ledger.share_out.Goals as goal
 use Rattle.ledger.proofs.ledger.Ledger.share_out.Goals.{In-Err, In_default}
 
 -- after the tests, none of the first grounds is met
-unmet : (g : given.Over) (c : In_default g) → first_grounds c.args.self.now.book c.args.sheet.now
+unmet : (g : given.Over) (c : In_default g) → early_fault c.args.self.now.book c.args.sheet.now
     c.args.day (inputs_of (g.P.Profile.tells c.args.profile.now) g.P.Profile.SEGMENTS
     g.R.ShareRule.shares c.args.uses.now c.args.shares.now) ≡ None
-unmet g c = (passed_by (first_grounds c.args.self.now.book c.args.sheet.now c.args.day
+unmet g c = (passed_by (early_fault c.args.self.now.book c.args.sheet.now c.args.day
     (inputs_of (g.P.Profile.tells c.args.profile.now) g.P.Profile.SEGMENTS g.R.ShareRule.shares
     c.args.uses.now c.args.shares.now)) tt tt c.in_default.ensures).0
 
@@ -21,7 +21,7 @@ returns-in-Err g c =
     let s = c.args.sheet.now in
     let m = inputs_of (g.P.Profile.tells c.args.profile.now) g.P.Profile.SEGMENTS
     g.R.ShareRule.shares c.args.uses.now c.args.shares.now in
-    let some = refused_by (first_grounds l s c.args.day m) tt c.in-Err.why c.in-Err.ensures in
+    let some = refused_by (early_fault l s c.args.day m) tt c.in-Err.why c.in-Err.ensures in
     let d = turned_away l s c.args.day m c.in-Err.why some in
     record {
       became = d;
