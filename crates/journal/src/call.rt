@@ -8,7 +8,7 @@ ghost use Rattle.journal.specs.declared.kind.Kind.TheVariants as of;
 ghost use Rattle.journal.specs.declared.kind.Shape.TheVariants as shaped;
 
 use crate::fault::Fault;
-use crate::kind::{Kind, Rule, Shape, is_word};
+use crate::kind::{FromWord, Kind, Rule, Shape, is_word};
 use crate::number::{read, tenths};
 use crate::words::{is_file, is_name};
 

@@ -1,7 +1,7 @@
 //! The fixed words of the journal.
 ghost use Rattle.std.specs.Prelude.{◌≡◌, ℕ, List, Some};
 ghost use Rattle.std.specs.Str.{bytes_eq};
-ghost use Rattle.journal.specs.Vocabulary.{item_by_word, kind_by_word, kind_word, rule_by_word, rule_word, shape_by_word, shape_word};
+ghost use Rattle.journal.specs.Vocabulary.{item_by_word, kind_by_word-kind_word, kind_word, kinds, rule_by_word-rule_word, rule_word, rules, shape_by_word-shape_word, shape_word, shapes};
 
 use crate::table::{CALLS, Row, calls};
 
@@ -50,6 +50,20 @@ pub trait Worded: Copy + 'static {
         ensures { result.now ≡ word_of self.now };
 }
 
+/// What a fixed word of the journal names.
+pub trait FromWord: Worded {
+    // all that there are
+    ghost all: { List Self };
+
+    /// The first that goes by a word.
+    fn from_word(word: &[u8]) -> Option<Self>
+        ensures value { result ≡ item_by_word Self.word_of all word.now }
+        ensures own { (x : Self) → word.now ≡ Self.word_of x → result ≡ Some x };
+
+    // each is the first that goes by its own word
+    ghost own: { (x : Self) → item_by_word Self.word_of all (Self.word_of x) ≡ Some x };
+}
+
 impl Kind {
     /// The call's row in the table of calls.
     pub fn row(self) -> Row
@@ -57,15 +71,6 @@ impl Kind {
         ensures word { result.word.now ≡ kind_word self }
     {
         CALLS[self as usize]
-    }
-
-    /// The call that begins with a word.
-    pub fn from_word(word: &[u8]) -> Option<Kind>
-        ensures value { result ≡ kind_by_word word.now }
-        ensures own { (kind : Kind) → word.now ≡ kind_word kind → result ≡ Some kind }
-    {
-        let row = find(calls(), word)?;
-        Some(row.kind)
     }
 }
 
@@ -77,14 +82,15 @@ impl Worded for Kind {
     }
 }
 
-impl Shape {
-    /// The shape that a word names.
-    pub fn from_word(word: &[u8]) -> Option<Shape>
-        ensures value { result ≡ shape_by_word word.now }
-        ensures own { (shape : Shape) → word.now ≡ shape_word shape → result ≡ Some shape }
-    {
-        find(&[Shape::Table, Shape::Even, Shape::Season], word)
+impl FromWord for Kind {
+    ghost all = { kinds };
+
+    fn from_word(word: &[u8]) -> Option<Kind> {
+        let row = find(calls(), word)?;
+        Some(row.kind)
     }
+
+    ghost own = { kind_by_word-kind_word };
 }
 
 impl Worded for Shape {
@@ -99,14 +105,14 @@ impl Worded for Shape {
     }
 }
 
-impl Rule {
-    /// The share rule that a word names.
-    pub fn from_word(word: &[u8]) -> Option<Rule>
-        ensures value { result ≡ rule_by_word word.now }
-        ensures own { (rule : Rule) → word.now ≡ rule_word rule → result ≡ Some rule }
-    {
-        find(&[Rule::Running, Rule::Largest], word)
+impl FromWord for Shape {
+    ghost all = { shapes };
+
+    fn from_word(word: &[u8]) -> Option<Shape> {
+        find(&[Shape::Table, Shape::Even, Shape::Season], word)
     }
+
+    ghost own = { shape_by_word-shape_word };
 }
 
 impl Worded for Rule {
@@ -118,6 +124,16 @@ impl Worded for Rule {
             Rule::Largest => "largest",
         }
     }
+}
+
+impl FromWord for Rule {
+    ghost all = { rules };
+
+    fn from_word(word: &[u8]) -> Option<Rule> {
+        find(&[Rule::Running, Rule::Largest], word)
+    }
+
+    ghost own = { rule_by_word-rule_word };
 }
 
 // Whether a word is a given text.

@@ -3,7 +3,7 @@ use Rattle.std.specs.Option.{option_map}
 use Rattle.journal.specs.declared.table.Row.{Row}
 use Rattle.journal.specs.Vocabulary.{item_by_word, kind_by_word, kind_by_word-kind_word}
 use Rattle.journal.proofs.Tables.{option_map-kind}
-use Rattle.journal.proofs.kind.Kind.from_word.Goals as goal
+use Rattle.journal.proofs.kind.KindFromWord.from_word.Goals as goal
 
 pub returns-clause-value : goal.returns-clause-value
 returns-clause-value c =
