@@ -45,17 +45,17 @@ pub trait Worded: Copy + 'static {
     // the word's bytes
     ghost word_of: { Self → List ℕ };
 
-    /// The fixed word.
+    /// The word.
     fn word(&self) -> &'static str
         ensures { result.now ≡ word_of self.now };
 }
 
-/// What a fixed word of the journal names.
+/// What is read from its word, one of a fixed few.
 pub trait FromWord: Worded {
     // all that there are
     ghost all: { List Self };
 
-    /// The first that goes by a word.
+    /// The first of all that goes by a word, or `None`.
     fn from_word(word: &[u8]) -> Option<Self>
         ensures value { result ≡ item_by_word Self.word_of all word.now }
         ensures own { (x : Self) → word.now ≡ Self.word_of x → result ≡ Some x };
