@@ -3,7 +3,7 @@ use Rattle.std.specs.Prelude.{◌≡◌, ℕ, zero, suc, ◌+◌, ◌*◌, ◌/�
 use Rattle.std.proofs.Math.Path.{sym, ap, subst}
 use Rattle.std.proofs.Common.{◌∙◌, mul-add, mul-one, add-one, take_all}
 use Rattle.std.proofs.Math.Logic.{⊎_elim}
-use Rattle.std.proofs.Math.Nat.{add-zero, add-mul, mul-zero, mul_comm, mod-lt, mul-lt-mul_of_pos_left}
+use Rattle.std.proofs.Math.Nat.{add-zero, add-mul, mul-zero, zero-mod, zero-div, mul_comm, mod-lt, mul-lt-mul_of_pos_left}
 use native.Mathlib.Omega.{arith}
 use Rattle.std.specs.List.{range_with_len}
 use Rattle.std.proofs.lemmas.Nat.{div-add-mod'}
@@ -12,7 +12,7 @@ use Rattle.std.proofs.lemmas.List.Sums.{sum_by-cons, sum_by_more, count_by-le-le
 use Rattle.std.proofs.lemmas.Bool.{cases_lt, le-ltb, lt-ltb}
 use Rattle.std.proofs.lemmas.List.FromFn.{length-map-range_with_len, get_or-map-range_with_len, sum_by-map-range_with_len_more}
 use Rattle.shares.specs.Fair.{Near}
-use Rattle.shares.specs.Laws.{GivesOneEach, SharesWhole, SharesNear, SharesFairly}
+use Rattle.shares.specs.Laws.{GivesOneEach, SharesWhole, SharesNear, SharesIdle, SharesFairly}
 use Rattle.shares.specs.Rules.{floors, remainders, litres_left, places_ahead, largest_remainder_share, largest_remainder_shares}
 use Rattle.shares.specs.Fairness.{fair_parts}
 use Rattle.shares.specs.Counts.{one_if, count_above, count_at, MayCut, cut_below, count_from-split, count_before_cut, count_before_cut_more}
@@ -93,7 +93,7 @@ module _ (a : ℕ) (ws : List ℕ) (some : 0 < sum ws) where
       (λ h. h)
       (cases_lt a (sum (floors a ws)))
 
-  sum-remainders : sum (remainders a ws) ≡ sum ws * litres_left a ws
+  pub sum-remainders : sum (remainders a ws) ≡ sum ws * litres_left a ws
   unfolding floors remainders litres_left
   sum-remainders =
       let b = sum_of_both a (sum ws) some ws in
@@ -106,7 +106,7 @@ module _ (a : ℕ) (ws : List ℕ) (some : 0 < sum ws) where
       omega arith
 
   -- as many places have a remainder as there are litres left
-  left_above_zero : litres_left a ws ≤ count_above (remainders a ws) 0
+  pub left_above_zero : litres_left a ws ≤ count_above (remainders a ws) 0
   unfolding remainders
   left_above_zero =
       let p = sum_below a (sum ws) some ws in
@@ -125,14 +125,14 @@ module _ (a : ℕ) (ws : List ℕ) (some : 0 < sum ws) where
   unfolding remainders
   none_over = none_above a (sum ws) some ws
 
-  some_cut : (t : ℕ) × MayCut (remainders a ws) (litres_left a ws) t
+  pub some_cut : (t : ℕ) × MayCut (remainders a ws) (litres_left a ws) t
   some_cut =
       cut_below (remainders a ws) (litres_left a ws)
       (omega (arith, litres_left_limit, length-remainders a ws))
       (sum ws) (omega (arith, none_over))
 
   -- no litre goes to a place whose floor is exact
-  exact_none : (i : ℕ) → slice_index (remainders a ws) i ≡ 0 →
+  pub exact_none : (i : ℕ) → slice_index (remainders a ws) i ≡ 0 →
       litres_left a ws ≤ places_ahead (remainders a ws) i
   unfolding places_ahead
   exact_none i z =
@@ -149,7 +149,7 @@ module _ (a : ℕ) (ws : List ℕ) (some : 0 < sum ws) where
       absurd (omega (arith, exact_none i z)))
       (cases_lt 0 (a * slice_index ws i % sum ws))
 
-  share_near : (i : ℕ) → i < length ws →
+  pub share_near : (i : ℕ) → i < length ws →
       Near a (sum ws) (slice_index ws i) (largest_remainder_share a ws i)
   unfolding largest_remainder_share
   share_near i in' =
@@ -168,6 +168,16 @@ module _ (a : ℕ) (ws : List ℕ) (some : 0 < sum ws) where
       rw (f, lt-ltb ahead left y) (omega arith, omega arith))
       (λ n. rw (f, le-ltb ahead left n, add-zero q) (omega arith, omega arith))
       (cases_lt ahead left)
+
+  -- no weight, no share, whether or not the quantity can be shared
+  pub largest_share_idle : (i : ℕ) → i < length ws → slice_index ws i ≡ 0 →
+      largest_remainder_share a ws i ≡ 0
+  unfolding largest_remainder_share
+  largest_share_idle i in' z =
+      let litres : a * slice_index ws i ≡ 0 = ap (λ w. a * w) z ∙ mul-zero a in
+      let f = floor_at a ws i in' ∙ ap (λ x. x / sum ws) litres ∙ zero-div (sum ws) in
+      let r = remainder_at a ws i in' ∙ ap (λ x. x % sum ws) litres ∙ zero-mod (sum ws) in
+      rw (f, le-ltb (places_ahead (remainders a ws) i) (litres_left a ws) (exact_none i r))
 
   -- the first n shares: the floors, and a litre for each place before the cut
   sum_first : (t : ℕ) → MayCut (remainders a ws) (litres_left a ws) t → (n : ℕ) → n ≤ length ws →
@@ -188,17 +198,17 @@ module _ (a : ℕ) (ws : List ℕ) (some : 0 < sum ws) where
       sum (take m (floors a ws)) + count_before_cut (remainders a ws) (litres_left a ws) t m)
       (add-one n) (omega arith)
 
-largest_places : GivesOneEach largest_remainder_shares
+pub largest_places : GivesOneEach largest_remainder_shares
 unfolding largest_remainder_shares
 largest_places a ws = length-map-range_with_len (largest_remainder_share a ws) 0 (length ws)
 
-largest_at : (a : ℕ) (ws : List ℕ) (i : ℕ) → i < length ws →
+pub largest_at : (a : ℕ) (ws : List ℕ) (i : ℕ) → i < length ws →
     slice_index (largest_remainder_shares a ws) i ≡ largest_remainder_share a ws i
 unfolding largest_remainder_shares
 largest_at a ws i h =
     get_or-map-range_with_len (largest_remainder_share a ws) 0 (length ws) i i 0 h (omega arith)
 
-largest_whole : SharesWhole largest_remainder_shares
+pub largest_whole : SharesWhole largest_remainder_shares
 unfolding largest_remainder_shares litres_left
 largest_whole a ws h =
     let p = fair_parts a ws h in
@@ -213,9 +223,13 @@ largest_whole a ws h =
     let split = count_from-split (remainders a ws) cut.0 in
     omega (arith, all, f, g, e, split, cut.1.few, cut.1.enough, sum_floors_limit a ws p.some)
 
-largest_near : SharesNear largest_remainder_shares
+pub largest_near : SharesNear largest_remainder_shares
 largest_near a ws i h in' =
     rw (largest_at a ws i in') (share_near a ws (fair_parts a ws h).some i in')
+
+pub largest_idle : SharesIdle largest_remainder_shares
+largest_idle a ws i h in' z =
+    largest_at a ws i in' ∙ largest_share_idle a ws (fair_parts a ws h).some i in' z
 
 pub largest_laws : SharesFairly largest_remainder_shares
 largest_laws = record { places = largest_places; whole = largest_whole; near = largest_near }

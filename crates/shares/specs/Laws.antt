@@ -19,6 +19,11 @@ abbrev pub SharesNear : Rule → Type 0
 SharesNear rule = (a : ℕ) (ws : List ℕ) (i : ℕ) → fair a ws ≡ true → i < length ws →
     Near a (sum ws) (slice_index ws i) (slice_index (rule a ws) i)
 
+-- no weight, no share, where the quantity can be shared
+abbrev pub SharesIdle : Rule → Type 0
+SharesIdle rule = (a : ℕ) (ws : List ℕ) (i : ℕ) → fair a ws ≡ true → i < length ws →
+    slice_index ws i ≡ 0 → slice_index (rule a ws) i ≡ 0
+
 -- the laws of share rules
 pub record IsShareRule (rule : Rule) : Type 0 where
   pub places : GivesOneEach rule
