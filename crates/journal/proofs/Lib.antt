@@ -2,6 +2,7 @@ pub mod Pairs
 pub mod Pieces
 pub mod LineCuts
 pub mod Decimals
+pub mod Values
 pub mod Tables
 pub mod NumberLists
 pub mod Texts

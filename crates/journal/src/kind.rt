@@ -41,7 +41,7 @@ pub enum Rule {
 }
 
 /// What goes by a fixed word of the journal.
-pub trait Worded: Copy + 'static {
+pub trait Worded {
     // the word's bytes
     ghost word_of: { Self → List ℕ };
 
@@ -51,7 +51,7 @@ pub trait Worded: Copy + 'static {
 }
 
 /// What is read from its word, one of a fixed few.
-pub trait FromWord: Worded {
+pub trait FromWord: Worded + Copy + 'static {
     // all that there are
     ghost all: { List Self };
 
@@ -144,7 +144,7 @@ pub(crate) fn is_word(word: &[u8], text: &str) -> bool
 }
 
 // The first of a list that goes by a word.
-fn find<W: Worded>(items: &[W], word: &[u8]) -> Option<W>
+fn find<W: Worded + Copy>(items: &[W], word: &[u8]) -> Option<W>
     ensures { result ≡ item_by_word W.word_of items.now word.now }
 {
     items
