@@ -211,7 +211,7 @@ impl Station {
         sheets: &mut Sheets,
     ) -> Result<SharedOut, Refusal>
         ensures { let tells = P.Profile.tells profile.now in
-            let handed = inputs_of tells P.Profile.SEGMENTS R.ShareRule.shares
+            let handed = inputs_of tells P.Profile.segments R.ShareRule.shares
             sheets.old.uses.items sheets.old.shares.items in
             SharesDayOut self.old.ledger.book sheets.old.points.items self.old.running handed
             result self.new.ledger.book sheets.new.points.items

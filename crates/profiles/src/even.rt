@@ -34,7 +34,7 @@ impl EvenProfile {
 impl Profile for EvenProfile {
     const SEGMENTS: u32 = 8;
 
-    ghost SEGMENTS = { even_segments };
+    ghost segments = { even_segments };
 
     ghost tells = { λ p. even_tells p.factor };
 
@@ -43,6 +43,10 @@ impl Profile for EvenProfile {
     ghost are_factors = { λ p. even_tells_factors p.factor p.in_range };
 
     ghost outside = { λ p. even_tells_outside p.factor };
+
+    fn segments_of() -> u32 {
+        Self::SEGMENTS
+    }
 
     fn tell(&self, segment: u32, weather: Weather) -> Factors {
         if segment >= Self::SEGMENTS || !weather.is_in_range() {

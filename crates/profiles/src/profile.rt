@@ -13,18 +13,24 @@ pub trait Profile {
     /// The number of segments served, 1 to 8: segments 0 up to it.
     const SEGMENTS: u32;
 
-    ghost SEGMENTS: { ℕ };
+    // The same number for contracts. It is no `SEGMENTS` tied to the constant: that the check cannot
+    // state of a type that borrows.
+    ghost segments: { ℕ };
 
     ghost tells: { Self → ℕ → Weather → Factors };
+
+    /// The number of segments served, for code over any profile.
+    fn segments_of() -> u32
+        ensures { result ≡ segments };
 
     /// The factors of a segment in a weather, and 0 and 0 where either is out of range. It never
     /// refuses.
     fn tell(&self, segment: u32, weather: Weather) -> Factors
         ensures { result ≡ tells self.now segment weather };
 
-    ghost few: { (1 ≤ SEGMENTS) × (SEGMENTS ≤ 8) };
+    ghost few: { (1 ≤ segments) × (segments ≤ 8) };
 
     ghost are_factors: { (p : Self) → TellsFactors (tells p) };
 
-    ghost outside: { (p : Self) → TellsZeroOutside SEGMENTS (tells p) };
+    ghost outside: { (p : Self) → TellsZeroOutside segments (tells p) };
 }

@@ -72,7 +72,7 @@ impl<P: Profile> SeasonLayer<P> {
 impl<P: Profile> Profile for SeasonLayer<P> {
     const SEGMENTS: u32 = P::SEGMENTS;
 
-    ghost SEGMENTS = { P.Profile.SEGMENTS };
+    ghost segments = { P.Profile.segments };
 
     ghost tells = { λ l. layer_tells l.segment l.sheet.numbers (P.Profile.tells l.below) };
 
@@ -82,7 +82,11 @@ impl<P: Profile> Profile for SeasonLayer<P> {
         (P.Profile.tells l.below) (P.Profile.are_factors l.below) };
 
     ghost outside = { λ l. layer_tells_outside l.segment l.sheet.numbers
-        (P.Profile.tells l.below) P.Profile.SEGMENTS (P.Profile.outside l.below) };
+        (P.Profile.tells l.below) P.Profile.segments (P.Profile.outside l.below) };
+
+    fn segments_of() -> u32 {
+        P::segments_of()
+    }
 
     fn tell(&self, segment: u32, weather: Weather) -> Factors {
         let below = self.below.tell(segment, weather);

@@ -47,7 +47,7 @@ impl TableProfile {
 impl Profile for TableProfile {
     const SEGMENTS: u32 = 2;
 
-    ghost SEGMENTS = { table_segments };
+    ghost segments = { table_segments };
 
     ghost tells = { λ p. table_tells p.sheet.numbers };
 
@@ -56,6 +56,10 @@ impl Profile for TableProfile {
     ghost are_factors = { λ p. table_tells_factors p.sheet.numbers p.sheet.in_range };
 
     ghost outside = { λ p. table_tells_outside p.sheet.numbers };
+
+    fn segments_of() -> u32 {
+        Self::SEGMENTS
+    }
 
     fn tell(&self, segment: u32, weather: Weather) -> Factors {
         if segment >= Self::SEGMENTS || !weather.is_in_range() {

@@ -149,3 +149,43 @@ fn layer_segments(rt: HostRuntime) -> Result<(), Fail> {
     assert!(rt; tells(&refused.given, 0, -80, 962_833));
     Ok(())
 }
+
+// A profile that is lent by whom it belongs to: a profile may borrow.
+#[derive(Drop)]
+struct Lent<'a, P> {
+    below: &'a P,
+}
+
+impl<'a, P: Profile> Profile for Lent<'a, P> {
+    const SEGMENTS: u32 = P::SEGMENTS;
+
+    ghost segments = { P.Profile.segments };
+
+    ghost tells = { λ l. P.Profile.tells l.below.now };
+
+    ghost few = { P.Profile.few };
+
+    ghost are_factors = { λ l. P.Profile.are_factors l.below.now };
+
+    ghost outside = { λ l. P.Profile.outside l.below.now };
+
+    fn segments_of() -> u32 {
+        P::segments_of()
+    }
+
+    fn tell(&self, segment: u32, weather: Weather) -> Factors {
+        self.below.tell(segment, weather)
+    }
+}
+
+#[test]
+fn a_layer_over_a_lent_profile(rt: HostRuntime) -> Result<(), Fail> {
+    let table = table();
+    let layer = SeasonLayer::new(Lent { below: &table }, 1).map_err(|_| Fail::new("segment 1"))?;
+    assert_eq!(rt;
+        <SeasonLayer<Lent<'_, TableProfile>> as Profile>::segments_of(),
+        2
+    );
+    assert!(rt; tells(&layer, 0, -80, 962_833) && tells(&table, 0, -80, 962_833));
+    Ok(())
+}

@@ -123,7 +123,7 @@ impl Ledger {
         uses: usize,
         shares: usize,
     ) -> Result<(), Refusal>
-        ensures { let segments = P.Profile.SEGMENTS in
+        ensures { let segments = P.Profile.segments in
             let first = early_fault_of self.now.book sheet.now day.now segments uses shares in
             result ≡ call_answer first tt }
     {
@@ -131,7 +131,7 @@ impl Ledger {
         if uses < rows.len() || shares < rows.len() {
             return Err(Refusal::WorkSheetLength);
         }
-        let tests = test_rows(rows, self.book.counts.traders, P::SEGMENTS);
+        let tests = test_rows(rows, self.book.counts.traders, P::segments_of());
         if !tests.may_share {
             return Err(Refusal::ForeignSheet);
         }
@@ -215,12 +215,12 @@ impl Ledger {
         shares: &mut [u64],
     ) -> Result<SharedOut, Refused<MeasuredDay>>
         ensures became { let tells = P.Profile.tells profile.now in
-            let segments = P.Profile.SEGMENTS in
+            let segments = P.Profile.segments in
             let inputs = inputs_of tells segments R.ShareRule.shares uses.old shares.old in
             SharesOut self.old.book sheet.old day inputs
             result self.new.book sheet.new (work_sheets_of uses.new shares.new) }
         ensures run { let tells = P.Profile.tells profile.now in
-            let segments = P.Profile.SEGMENTS in
+            let segments = P.Profile.segments in
             let inputs = inputs_of tells segments R.ShareRule.shares uses.old shares.old in
             Step (Shared day inputs result (work_sheets_of uses.new shares.new))
             self.old.book sheet.old self.new.book sheet.new }

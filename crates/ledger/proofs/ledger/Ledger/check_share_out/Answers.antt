@@ -12,7 +12,7 @@ use Rattle.ledger.proofs.ledger.Ledger.check_share_out.Goals.{After-test_rows-te
 
 -- once the rows are tested, the ground is the first that the tests give
 tested : (g : given.Over) (c : After-test_rows-tests g) →
-    early_fault_of c.args.self.now.book c.args.sheet.now c.args.day.now g.P.Profile.SEGMENTS
+    early_fault_of c.args.self.now.book c.args.sheet.now c.args.day.now g.P.Profile.segments
     c.args.uses c.args.shares ≡ first_ground ((not c.test_rows-tests.result.may_share, ForeignSheet)
     ∷ (not (is_measured c.args.self.now.book.phase c.args.day.now.number), NotRunning) ∷
     (not c.test_rows-tests.result.free, SlipOpenAtShareOut) ∷
@@ -21,9 +21,9 @@ tested g c =
     let f = c.in_ok-rows.ensures in
     let t = c.test_rows-tests.ensures in
     let served = t.served ∙ ap (λ (k : ℕ). list_all (is_served k) c.in_ok-rows.rows.now)
-    c.SEGMENTS.ensures in
+    c.segments_of.ensures in
     grounds_tested c.args.self.now.book c.args.sheet.now c.args.day.now c.in_ok-rows.rows.now
-    g.P.Profile.SEGMENTS c.args.uses c.args.shares f.0 f.1 _ _ _ t.share t.free served
+    g.P.Profile.segments c.args.uses c.args.shares f.0 f.1 _ _ _ t.share t.free served
     (omega arith) (omega arith)
 
 pub returns-then-not-tests : goal.returns-then-not-tests

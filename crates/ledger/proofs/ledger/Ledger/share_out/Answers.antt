@@ -9,17 +9,17 @@ use Rattle.ledger.proofs.ledger.Ledger.share_out.Goals.{In-Err, In_default}
 
 -- after the tests, none of the first grounds is met
 unmet : (g : given.Over) (c : In_default g) → early_fault c.args.self.now.book c.args.sheet.now
-    c.args.day (inputs_of (g.P.Profile.tells c.args.profile.now) g.P.Profile.SEGMENTS
+    c.args.day (inputs_of (g.P.Profile.tells c.args.profile.now) g.P.Profile.segments
     g.R.ShareRule.shares c.args.uses.now c.args.shares.now) ≡ None
 unmet g c = (passed_by (early_fault c.args.self.now.book c.args.sheet.now c.args.day
-    (inputs_of (g.P.Profile.tells c.args.profile.now) g.P.Profile.SEGMENTS g.R.ShareRule.shares
+    (inputs_of (g.P.Profile.tells c.args.profile.now) g.P.Profile.segments g.R.ShareRule.shares
     c.args.uses.now c.args.shares.now)) tt tt c.in_default.ensures).0
 
 pub returns-in-Err : goal.returns-in-Err
 returns-in-Err g c =
     let l = c.args.self.now.book in
     let s = c.args.sheet.now in
-    let m = inputs_of (g.P.Profile.tells c.args.profile.now) g.P.Profile.SEGMENTS
+    let m = inputs_of (g.P.Profile.tells c.args.profile.now) g.P.Profile.segments
     g.R.ShareRule.shares c.args.uses.now c.args.shares.now in
     let some = refused_by (early_fault l s c.args.day m) tt c.in-Err.why c.in-Err.ensures in
     let d = turned_away l s c.args.day m c.in-Err.why some in
@@ -35,12 +35,12 @@ returns-in-Err g c =
 pub weigh_day-total-requires : goal.weigh_day-total-requires
 weigh_day-total-requires g c =
     let none = unmet g (goal.at.weigh_day-total-requires g c).In_default in
-    passed c.args.self.now.book c.args.sheet.now c.args.day g.P.Profile.SEGMENTS
+    passed c.args.self.now.book c.args.sheet.now c.args.day g.P.Profile.segments
     (length c.args.uses.now) (length c.args.shares.now) none
 
 pub returns-then-total-eq0 : goal.returns-then-total-eq0
 returns-then-total-eq0 g c =
-    let m = inputs_of (g.P.Profile.tells c.args.profile.now) g.P.Profile.SEGMENTS
+    let m = inputs_of (g.P.Profile.tells c.args.profile.now) g.P.Profile.segments
     g.R.ShareRule.shares c.args.uses.now c.args.shares.now in
     let none = unmet g (goal.at.returns-then-total-eq0 g c).In_default in
     let w = c.weigh_day-total.ensures in
@@ -60,7 +60,7 @@ pub close_day-requires : goal.close_day-requires
 close_day-requires g c =
     let l = c.args.self.now.book in
     let s = c.args.sheet.now in
-    let n = g.P.Profile.SEGMENTS in
+    let n = g.P.Profile.segments in
     let us = c.args.uses.now in
     let ss = c.args.shares.now in
     let none = unmet g (goal.at.close_day-requires g c).In_default in
@@ -75,7 +75,7 @@ pub returns : goal.returns
 returns g c =
     let l = c.args.self.now.book in
     let s = c.args.sheet.now in
-    let m = inputs_of (g.P.Profile.tells c.args.profile.now) g.P.Profile.SEGMENTS
+    let m = inputs_of (g.P.Profile.tells c.args.profile.now) g.P.Profile.segments
     g.R.ShareRule.shares c.args.uses.now c.args.shares.now in
     let none = unmet g (goal.at.returns g c).In_default in
     let w = c.weigh_day-total.ensures in

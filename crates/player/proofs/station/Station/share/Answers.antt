@@ -13,7 +13,7 @@ invariant_of-self-in-Err g c =
     let day = c.in-Measured.day in
     let after = c.share_out.new.self.book in
     let handed =
-    inputs_of (g.P.Profile.tells c.args.profile.now) g.P.Profile.SEGMENTS
+    inputs_of (g.P.Profile.tells c.args.profile.now) g.P.Profile.segments
     g.R.ShareRule.shares c.as_mut_slice-in-Measured.result.now
     c.as_mut_slice-in-Measured-2.result.now
     in
