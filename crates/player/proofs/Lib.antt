@@ -1,2 +1,4 @@
 mod Adding
+mod Places
+mod Removals
 mod Ties

@@ -1,7 +1,7 @@
 //! The closing report: the accounts, the correction account and the balance (docs/JOURNAL.md).
 use crate::report::Report;
 use crate::slips::Slips;
-use ledger::{Ledger, Point};
+use ledger::{Ledger, MAX_POINTS, Point};
 use std::alloc::AllocError;
 use year::totals;
 
@@ -63,11 +63,13 @@ impl Closing<'_> {
 
 // A line for each slip that is still open, by its point.
 pub(crate) fn print_open_slips(slips: &Slips, report: &mut Report) -> Result<(), AllocError> {
-    for slip in slips.as_slice() {
-        report.print_closing("withdraw", |report| {
-            report.field("point", slip.point())?;
-            report.field("slip", slip.number())
-        })?;
+    for point in 0..MAX_POINTS {
+        if let Some(slip) = slips.at(point) {
+            report.print_closing("withdraw", |report| {
+                report.field("point", point)?;
+                report.field("slip", slip.number())
+            })?;
+        }
     }
     Ok(())
 }

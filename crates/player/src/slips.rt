@@ -1,19 +1,23 @@
 //! The slips of a journal's readings that are still open, so that a journal names them by their
 //! points.
-ghost use Rattle.std.specs.Prelude.{◌≡◌, ◌<◌, ◌≤◌, All, Ok, IfErr, IfSome, vec_len, vec_capacity, OnOk, OnSome};
-ghost use Rattle.std.specs.List.Sorted.{IsSearchInRange};
-ghost use Rattle.player.specs.Slips.{IsLedgerSlip};
+ghost use Rattle.std.specs.Prelude.{◌≡◌, ◌≢◌, ◌<◌, ◌≤◌, ℕ, All, Ok, IfErr, IfNone, IfSome, vec_len, vec_capacity, OnOk, OnSome};
+ghost use Rattle.ledger.specs.declared.slip.Slip.{Slip};
+ghost use Rattle.player.specs.Slips.{IsLedgerSlip, IsPlaced, IsFound, HasSlip};
 
 use ledger::{Ledger, MAX_POINTS, Point, Refused, Slip};
 use refusals::Refusal;
 use std::alloc::{AllocError, Global};
 
-/// The open slips, at most one a point, in the order of their points. They stand in a Vec and not
-/// in a map, which may have no memory for a slip that a refusal hands back: a slip cannot be let
-/// go.
+/// The open slips, at most one a point, in no order, and a table of where each of them stands: a
+/// slip is put, found and taken in a time that their number does not change. They stand in a Vec
+/// and not in a map, which may have no memory for a slip that a refusal hands back: a slip cannot
+/// be let go.
 pub struct Slips {
     open: Vec<Slip>,
+    // for each point, where its slip stands in `open`, if it is open; empty until a point is read
+    places: Vec<usize>,
     ghost made: { All IsLedgerSlip open.items },
+    ghost full: { 0 < vec_len «open» → vec_len places ≡ 4096 },
 }
 
 /// Slips that a ledger would not take back, one at least.
@@ -30,54 +34,90 @@ impl Slips {
     {
         Slips {
             open: Vec::new(heap),
+            places: Vec::new(heap),
         }
     }
 
-    // The open slips, by their points.
-    pub(crate) fn as_slice(&self) -> &[Slip]
-        ensures { result.now ≡ self.now.open.items }
+    // Where the point's open slip stands.
+    fn place(&self, point: usize) -> Option<usize>
+        ensures found { IfSome result (λ place. (slip : Slip)
+            × IsPlaced self.now.open.items self.now.places.items point place slip) }
+        ensures none { IfNone result (¬ HasSlip self.now.open.items self.now.places.items point) }
     {
-        self.open.as_slice()
+        let place = *self.places.as_slice().get(point)?;
+        // once a slip is taken, another point's may stand in its place
+        let slip = self.open.as_slice().get(place)?;
+        if slip.point() == point {
+            Some(place)
+        } else {
+            None
+        }
     }
 
-    // Where the point's slip stands, or would stand.
-    fn place(&self, point: usize) -> Result<usize, usize>
-        ensures { IsSearchInRange result (vec_len self.now.open) }
+    // The point's open slip.
+    pub(crate) fn at(&self, point: usize) -> Option<&Slip>
+        ensures found { IfSome result (λ slip.
+            IsFound self.now.open.items self.now.places.items point slip.now) }
+        ensures none { IfNone result (¬ HasSlip self.now.open.items self.now.places.items point) }
     {
-        self.open
-            .as_slice()
-            .binary_search_by_key(&point, |slip| slip.point())
+        let place = self.place(point)?;
+        self.open.as_slice().get(place)
     }
 
     // Takes the point's slip out; a place is then free for it.
     pub(crate) fn take(&mut self, point: usize) -> Option<Slip>
         ensures room { OnSome result (vec_len self.new.open < vec_capacity self.new.open) }
+        ensures full { OnSome result (vec_len self.new.places ≡ 4096) }
         ensures made { IfSome result IsLedgerSlip }
+        ensures found { IfSome result
+            (IsFound self.old.open.items self.old.places.items point) }
+        ensures none { IfNone result (¬ HasSlip self.old.open.items self.old.places.items point) }
+        ensures others { (other : ℕ) → other ≢ point
+            → HasSlip self.old.open.items self.old.places.items other
+            → HasSlip self.new.open.items self.new.places.items other }
     {
-        let place = self.place(point).ok()?;
-        Some(self.open.remove(place))
+        let place = self.place(point)?;
+        let slip = self.open.swap_remove(place);
+        // the last slip stands there now, unless it was the last one that was taken
+        if let Some(moved) = self.open.as_slice().get(place) {
+            self.places[moved.point()] = place;
+        }
+        Some(slip)
     }
 
-    // Makes room for one slip more.
+    // Makes room for one slip more, and a table for every point.
     pub(crate) fn reserve(&mut self) -> Result<(), AllocError>
-        ensures { OnOk result (vec_len self.new.open < vec_capacity self.new.open) }
+        ensures room { OnOk result (vec_len self.new.open < vec_capacity self.new.open) }
+        ensures full { OnOk result (vec_len self.new.places ≡ 4096) }
+        ensures all { (point : ℕ) (slip : Slip)
+            → IsFound self.old.open.items self.old.places.items point slip
+            → IsFound self.new.open.items self.new.places.items point slip }
     {
+        self.places.resize(MAX_POINTS, 0)?;
         self.open.reserve(1)
     }
 
-    // Puts a slip in its place.
+    // Puts a slip behind the others.
     pub(crate) fn put(&mut self, slip: Slip)
         requires room { vec_len self.old.open < vec_capacity self.old.open }
+        requires full { vec_len self.old.places ≡ 4096 }
         requires made { IsLedgerSlip slip }
+        ensures found { IsFound self.new.open.items self.new.places.items slip.point slip }
+        ensures others { (other : ℕ) (open_slip : Slip) → other ≢ slip.point
+            → IsFound self.old.open.items self.old.places.items other open_slip
+            → IsFound self.new.open.items self.new.places.items other open_slip }
     {
-        let place = self.place(slip.point()).unwrap_or_else(|place| place);
-        self.open.insert(place, slip).unwrap();
+        self.places[slip.point()] = self.open.len();
+        self.open.push_reserved(slip);
     }
 
     // The answer of a call with a slip. Where it was refused the slip stays open.
     pub(crate) fn keep<T>(&mut self, answer: Result<T, Refused<Slip>>) -> Result<T, Refusal>
         requires room { vec_len self.old.open < vec_capacity self.old.open }
+        requires full { vec_len self.old.places ≡ 4096 }
         requires made { IfErr answer (λ refused. IsLedgerSlip refused.given) }
+        ensures found { IfErr answer (λ refused.
+            IsFound self.new.open.items self.new.places.items refused.given.point refused.given) }
     {
         match answer {
             Ok(value) => Ok(value),
@@ -94,14 +134,14 @@ impl Slips {
         ensures none { vec_len self.open ≡ 0 → result ≡ Ok tt }
         ensures few { IfErr result (λ left. vec_len left.slips.open ≤ vec_len self.open) }
     {
-        let Slips { mut open } = self;
+        let Slips { mut open, places } = self;
         while let Some(slip) = open.pop() {
             match ledger.withdraw(sheet, slip) {
                 Ok(()) => {}
                 Err(Refused { why: _, given }) => {
                     open.push_reserved(given);
                     return Err(Unended {
-                        slips: Slips { open },
+                        slips: Slips { open, places },
                     });
                 }
             }
@@ -115,7 +155,10 @@ impl Slips {
     pub fn end_elsewhere(self) -> usize
         ensures { result ≡ vec_len self.open }
     {
-        let Slips { mut open } = self;
+        let Slips {
+            mut open,
+            places: _,
+        } = self;
         let ended = open.len();
         let ledger = full_ledger();
         while let Some(slip) = open.pop() {
