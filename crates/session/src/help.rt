@@ -35,10 +35,12 @@ impl fmt::Display for Help {
     }
 }
 
-/// Prints the text of `station --help`, at one go.
+/// Prints the text of `station --help`, at one go; where there is no memory for it, piece by piece.
 pub fn print_help(rt: &HostRuntime) -> anyhow::Result<()> {
-    let text = format!(in rt.alloc(); "{Help}")?;
-    rt.stdout().write_all(text.as_bytes())?;
+    match format!(in rt.alloc(); "{Help}") {
+        Ok(text) => rt.stdout().write_all(text.as_bytes())?,
+        Err(_) => print!(rt; "{Help}")?,
+    }
     Ok(())
 }
 
