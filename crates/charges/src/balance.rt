@@ -3,7 +3,7 @@ ghost use Rattle.std.specs.Prelude.{◌≡◌, ◌*◌, ◌≤◌, refl};
 ghost use Rattle.charges.specs.Quantity.{max_mj, value_in_limits};
 
 use super::megajoules::Megajoules;
-use super::rules::{Charge, Tolerance};
+use super::rules::{Allowance, Charge, Tolerance, beyond, is_within};
 use refusals::Refusal;
 
 /// What a source gave, and what was consumed from it: a surplus where the source is not below the
@@ -31,21 +31,45 @@ impl TryFrom<(u64, u64)> for Balance {
 }
 
 impl Tolerance for Balance {
-    ghost use Rattle.charges.specs.Balance.{balance_deviation, balance_tolerance, is_balance_inside};
+    ghost use Rattle.charges.specs.Balance.{is_balance_inside};
 
     const PERCENT: u64 = 2;
 
-    ghost PERCENT = { 2 };
+    ghost is_inside = { is_balance_inside };
 
-    ghost basis = { λ b. b.source };
+    fn is_inside(&self) -> bool {
+        is_within(self.deviation(), self.allowance())
+    }
+}
+
+impl Charge for Balance {
+    ghost use Rattle.charges.specs.Balance.{balance_deviation, balance_charge};
 
     ghost deviation = { balance_deviation };
 
+    ghost charge = { balance_charge };
+
+    fn charge(&self) -> u64 {
+        beyond(self.deviation(), self.allowance())
+    }
+}
+
+impl Allowance for Balance {
+    ghost use Rattle.charges.specs.Balance.{balance_tolerance};
+
+    ghost percent = { 2 };
+
+    ghost basis = { λ b. b.source };
+
     ghost allowance = { balance_tolerance };
 
-    ghost is_inside = { is_balance_inside };
-
     ghost is_inside_by_allowance = { λ _. refl };
+
+    ghost charge_beyond_allowance = { λ _. refl };
+
+    fn percent() -> u64 {
+        Self::PERCENT
+    }
 
     fn deviation(&self) -> Megajoules {
         self.source.abs_diff(self.consumption)
@@ -54,14 +78,6 @@ impl Tolerance for Balance {
     fn allowance(&self) -> u64 {
         self.source.per_cent(Self::PERCENT)
     }
-}
-
-impl Charge for Balance {
-    ghost use Rattle.charges.specs.Balance.{balance_charge};
-
-    ghost charge = { balance_charge };
-
-    ghost charge_beyond_allowance = { λ _. refl };
 }
 
 /// The offers of one direction, by their two kinds, HEG and HEGO.
@@ -125,23 +141,47 @@ impl OfferedBalance {
 }
 
 impl Tolerance for OfferedBalance {
-    ghost use Rattle.charges.specs.Balance.{balance_deviation};
-    ghost use Rattle.charges.specs.OfferedBalance.{offered_balance_allowance, is_offered_balance_inside};
-    ghost use Rattle.charges.specs.OfferedBalanceLaws.{is_offered_balance_inside_lem};
+    ghost use Rattle.charges.specs.OfferedBalance.{is_offered_balance_inside};
 
     const PERCENT: u64 = Balance::PERCENT;
 
-    ghost PERCENT = { 2 };
+    ghost is_inside = { is_offered_balance_inside };
 
-    ghost basis = { λ b. b.balance.source };
+    fn is_inside(&self) -> bool {
+        is_within(self.balance.deviation(), self.allowance())
+    }
+}
+
+impl Charge for OfferedBalance {
+    ghost use Rattle.charges.specs.Balance.{balance_deviation};
+    ghost use Rattle.charges.specs.OfferedBalance.{offered_balance_charge};
 
     ghost deviation = { λ b. balance_deviation b.balance };
 
+    ghost charge = { offered_balance_charge };
+
+    fn charge(&self) -> u64 {
+        beyond(self.balance.deviation(), self.allowance())
+    }
+}
+
+impl Allowance for OfferedBalance {
+    ghost use Rattle.charges.specs.OfferedBalance.{offered_balance_allowance};
+    ghost use Rattle.charges.specs.OfferedBalanceLaws.{is_offered_balance_inside_lem};
+
+    ghost percent = { 2 };
+
+    ghost basis = { λ b. b.balance.source };
+
     ghost allowance = { offered_balance_allowance };
 
-    ghost is_inside = { is_offered_balance_inside };
-
     ghost is_inside_by_allowance = { is_offered_balance_inside_lem };
+
+    ghost charge_beyond_allowance = { λ _. refl };
+
+    fn percent() -> u64 {
+        Self::PERCENT
+    }
 
     fn deviation(&self) -> Megajoules {
         self.balance.deviation()
@@ -150,12 +190,4 @@ impl Tolerance for OfferedBalance {
     fn allowance(&self) -> u64 {
         self.balance.allowance().max(self.usable_offers())
     }
-}
-
-impl Charge for OfferedBalance {
-    ghost use Rattle.charges.specs.OfferedBalance.{offered_balance_charge};
-
-    ghost charge = { offered_balance_charge };
-
-    ghost charge_beyond_allowance = { λ _. refl };
 }

@@ -2,7 +2,7 @@
 ghost use Rattle.std.specs.Prelude.{◌≡◌, refl};
 
 use super::megajoules::Megajoules;
-use super::rules::{Charge, Tolerance};
+use super::rules::{Allowance, Charge, Tolerance, beyond, is_within};
 use refusals::Refusal;
 
 /// What was nominated for a day, and what was then drawn. 12 per cent of what was nominated are
@@ -31,21 +31,45 @@ impl TryFrom<(u64, u64)> for Nomination {
 }
 
 impl Tolerance for Nomination {
-    ghost use Rattle.charges.specs.Nomination.{nomination_deviation, nomination_tolerance, is_nomination_inside};
+    ghost use Rattle.charges.specs.Nomination.{is_nomination_inside};
 
     const PERCENT: u64 = 12;
 
-    ghost PERCENT = { 12 };
+    ghost is_inside = { is_nomination_inside };
 
-    ghost basis = { λ n. n.nominated };
+    fn is_inside(&self) -> bool {
+        is_within(self.deviation(), self.allowance())
+    }
+}
+
+impl Charge for Nomination {
+    ghost use Rattle.charges.specs.Nomination.{nomination_deviation, nomination_charge};
 
     ghost deviation = { nomination_deviation };
 
+    ghost charge = { nomination_charge };
+
+    fn charge(&self) -> u64 {
+        beyond(self.deviation(), self.allowance())
+    }
+}
+
+impl Allowance for Nomination {
+    ghost use Rattle.charges.specs.Nomination.{nomination_tolerance};
+
+    ghost percent = { 12 };
+
+    ghost basis = { λ n. n.nominated };
+
     ghost allowance = { nomination_tolerance };
 
-    ghost is_inside = { is_nomination_inside };
-
     ghost is_inside_by_allowance = { λ _. refl };
+
+    ghost charge_beyond_allowance = { λ _. refl };
+
+    fn percent() -> u64 {
+        Self::PERCENT
+    }
 
     fn deviation(&self) -> Megajoules {
         self.actual.abs_diff(self.nominated)
@@ -54,12 +78,4 @@ impl Tolerance for Nomination {
     fn allowance(&self) -> u64 {
         self.nominated.per_cent(Self::PERCENT)
     }
-}
-
-impl Charge for Nomination {
-    ghost use Rattle.charges.specs.Nomination.{nomination_charge};
-
-    ghost charge = { nomination_charge };
-
-    ghost charge_beyond_allowance = { λ _. refl };
 }
