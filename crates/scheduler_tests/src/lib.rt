@@ -6,3 +6,5 @@
 mod charging;
 #[cfg(test)]
 mod days;
+#[cfg(test)]
+mod own_rules;
