@@ -148,7 +148,8 @@ impl Tolerance for OfferedBalance {
     ghost is_inside = { is_offered_balance_inside };
 
     fn is_inside(&self) -> bool {
-        is_within(self.balance.deviation(), self.allowance())
+        let deviation = self.deviation();
+        is_within(deviation, self.allowance())
     }
 }
 
@@ -161,7 +162,8 @@ impl Charge for OfferedBalance {
     ghost charge = { offered_balance_charge };
 
     fn charge(&self) -> u64 {
-        beyond(self.balance.deviation(), self.allowance())
+        let deviation = self.deviation();
+        beyond(deviation, self.allowance())
     }
 }
 

@@ -36,8 +36,8 @@ pub trait Charge: Tolerance {
 /// A charge rule that charges what lies beyond an allowance: a deviation of at most that is inside,
 /// and of a larger one the rest is charged (docs/CHARGES.md).
 pub trait Allowance: Charge {
-    // The rule's `PERCENT` for contracts. It is no `PERCENT` tied to the constant: that the check
-    // cannot state of a type that borrows.
+    // The number that `percent` returns. It is not tied to the constant, which the check cannot do
+    // for a type that borrows.
     ghost percent: { ℕ };
 
     // The MJ that the percentage is taken of.

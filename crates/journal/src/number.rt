@@ -14,8 +14,8 @@ fn all_digits(word: &[u8]) -> bool
     word.iter().all(|b| b.is_ascii_digit())
 }
 
-// The number that digits write, where 64 bits hold it. The library's `parse` wants text and takes
-// any radix, and was slower by a third over a file of numbers.
+// The number that digits write, where 64 bits hold it. The library's `parse` wants text and is
+// slower.
 fn value_of(digits: &[u8]) -> Option<u64>
     requires { all_ascii_digits digits.now ≡ true }
     ensures { MatchOption result

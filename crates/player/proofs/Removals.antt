@@ -72,7 +72,8 @@ has-moved slips left places place slip moved d other stood e there fits apart
           (last_moved slips place d moved x found
           (ap (slice_get slips) (sym last) ∙ stands))) in
           let within : k < length slips = slice_get_within slips k x stands in
-          let stays = slice_get-swap_remove slips place k d kept (omega (arith, within, not_last)) in
+          let stays =
+          slice_get-swap_remove slips place k d kept (omega (arith, within, not_last)) in
           let unwritten = slice_get-set_other places moved.point other place differs in
           (x, (k, (unwritten ∙ at, ap (λ l. slice_get l k) e ∙ stays ∙ stands, own)))
     ]

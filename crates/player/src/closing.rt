@@ -61,7 +61,7 @@ impl Closing<'_> {
     }
 }
 
-// A line for each slip that is still open, by its point.
+// A line for each slip that is still open, in the order of the points.
 pub(crate) fn print_open_slips(slips: &Slips, report: &mut Report) -> Result<(), AllocError> {
     for point in 0..MAX_POINTS {
         if let Some(slip) = slips.at(point) {

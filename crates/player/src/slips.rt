@@ -8,13 +8,14 @@ use ledger::{Ledger, MAX_POINTS, Point, Refused, Slip};
 use refusals::Refusal;
 use std::alloc::{AllocError, Global};
 
-/// The open slips, at most one a point, in no order, and a table of where each of them stands: a
-/// slip is put, found and taken in a time that their number does not change. They stand in a Vec
+/// The open slips, in no order, and a table of where that of each point stands: a slip is put,
+/// found and taken in a time that their number does not change. The ledger opens no second one of a
+/// point. They stand in a Vec
 /// and not in a map, which may have no memory for a slip that a refusal hands back: a slip cannot
 /// be let go.
 pub struct Slips {
     open: Vec<Slip>,
-    // for each point, where its slip stands in `open`, if it is open; empty until a point is read
+    // for each point, where its slip stands in `open`, if it is open; empty until the first reading
     places: Vec<usize>,
     ghost made: { All IsLedgerSlip open.items },
     ghost full: { 0 < vec_len «open» → vec_len places ≡ 4096 },
@@ -45,7 +46,7 @@ impl Slips {
         ensures none { IfNone result (¬ HasSlip self.now.open.items self.now.places.items point) }
     {
         let place = *self.places.as_slice().get(point)?;
-        // once a slip is taken, another point's may stand in its place
+        // another point's may stand there: this point's was taken, or none was put yet
         let slip = self.open.as_slice().get(place)?;
         if slip.point() == point {
             Some(place)

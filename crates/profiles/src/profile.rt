@@ -13,8 +13,8 @@ pub trait Profile {
     /// The number of segments served, 1 to 8: segments 0 up to it.
     const SEGMENTS: u32;
 
-    // The same number for contracts. It is no `SEGMENTS` tied to the constant: that the check cannot
-    // state of a type that borrows.
+    // The number that `segments_of` returns. It is not tied to the constant, which the check cannot
+    // do for a type that borrows.
     ghost segments: { ℕ };
 
     ghost tells: { Self → ℕ → Weather → Factors };

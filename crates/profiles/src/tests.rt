@@ -150,7 +150,7 @@ fn layer_segments(rt: HostRuntime) -> Result<(), Fail> {
     Ok(())
 }
 
-// A profile that is lent by whom it belongs to: a profile may borrow.
+// A profile that only borrows another.
 #[derive(Drop)]
 struct Lent<'a, P> {
     below: &'a P,

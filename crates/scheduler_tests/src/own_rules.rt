@@ -14,6 +14,7 @@ use std::test::Fail;
 #[derive(Clone, Copy)]
 struct Capped {
     nomination: Nomination,
+    // with a cap of 0 a deviation outside would cost nothing
     cap: u64,
     ghost some: { 0 < cap },
 }
