@@ -9,10 +9,9 @@ use refusals::Refusal;
 use std::alloc::{AllocError, Global};
 
 /// The open slips, in no order, and a table of where that of each point stands: a slip is put,
-/// found and taken in a time that their number does not change. The ledger opens no second one of a
-/// point. They stand in a Vec
-/// and not in a map, which may have no memory for a slip that a refusal hands back: a slip cannot
-/// be let go.
+/// found and taken in a time that their number does not change. The ledger opens no second one of
+/// a point. They stand in a Vec and not in a map, which may have no memory for a slip that a
+/// refusal hands back: a slip cannot be let go.
 pub struct Slips {
     open: Vec<Slip>,
     // for each point, where its slip stands in `open`, if it is open; empty until the first reading
